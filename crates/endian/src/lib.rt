@@ -1,0 +1,25 @@
+// Bytes as numbers, the lowest byte first. Knows nothing of the monitor.
+ghost use mathlib.Core.Path.{_≡_};
+ghost use Prim.Native.Nat.{_+_, _*_};
+ghost use Rattle.endian.specs.Bytes.{anySet};
+
+// The number that two bytes make.
+pub fn word(low: u8, high: u8) -> u16
+    ensures { λ r. ⌜ r ≡ low + 256 * high ⌝ }
+{
+    low as u16 + 256 * (high as u16)
+}
+
+// Whether a byte of the slice is not zero.
+pub fn any_set(s: &[u8]) -> bool
+    ensures { λ r. ⌜ r ≡ anySet (now (s .entry)) ⌝ }
+{
+    let mut i = 0;
+    while i < s.len() {
+        if s[i] != 0 {
+            return true;
+        }
+        i += 1;
+    }
+    false
+}

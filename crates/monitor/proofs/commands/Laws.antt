@@ -1,0 +1,86 @@
+-- Laws of the search for a bucket, and of a counter's number.
+use mathlib.Core.Path.{_≡_, refl}
+use mathlib.Core.Bool.{Bool, true, false, cond}
+use mathlib.Core.List.{List}
+use mathlib.Core.Option.{Option, none, some}
+use Prim.Native.Nat.{ℕ, zero, suc, _+_, _*_, _-_, _≤_, _<_}
+use native.Mathlib.Nat.{not-suc-le-zero}
+use native.Mathlib.Numerals.{sub-one}
+use native.Mathlib.Omega.{arith}
+use borrow.Author.Tests.{le-leb, lt-leb}
+use lib.Dec.{eqb}
+use lib.ListN.{getD}
+use Rattle.logpage.specs.declared.Settings.{Settings}
+use Rattle.monitor.specs.declared.commands.Completion.{Completion}
+use Rattle.monitor.specs.Commands.{highestBelow, reaches, bucketOf, kindOf, counterAt, counterOf}
+
+-- one step of the search down
+module _ (thresholds : List ℕ) (us n : ℕ) where
+  step :
+      0 < n →
+      highestBelow thresholds us n ≡
+      cond (reaches us (getD thresholds (n - 1) 0)) (some (n - 1)) (highestBelow thresholds us (n - 1))
+  unfolding highestBelow
+  step h = down n h
+    where
+      down :
+          (n : ℕ) →
+          0 < n →
+          highestBelow thresholds us n ≡
+          cond (reaches us (getD thresholds (n - 1) 0)) (some (n - 1)) (highestBelow thresholds us (n - 1))
+      down zero h = absurd (not-suc-le-zero h)
+      down (suc n) h = rw (sub-one (suc n))
+
+  pub hit :
+      0 < n → 5000 * (getD thresholds (n - 1) 0 + 1) ≤ us → highestBelow thresholds us n ≡ some (n - 1)
+  hit p h = rw (step p, le-leb _ _ h)
+
+  pub miss :
+      0 < n →
+      us < 5000 * (getD thresholds (n - 1) 0 + 1) →
+      highestBelow thresholds us n ≡ highestBelow thresholds us (n - 1)
+  miss p h = rw (step p, lt-leb _ _ h)
+
+pub nothing : (thresholds : List ℕ) (us : ℕ) → highestBelow thresholds us 0 ≡ none
+unfolding highestBelow
+nothing thresholds us = refl
+
+-- a number that is found is below a limit
+data Below (n : ℕ) : Option ℕ → Type 0 where
+  absent : Below n none
+  present : {x : ℕ} → x < n → Below n (some x)
+
+either : {n : ℕ} (t : Bool) {x y : Option ℕ} → Below n x → Below n y → Below n (cond t x y)
+either true p q = p
+either false p q = q
+
+more : {n : ℕ} {x : Option ℕ} → Below n x → Below (suc n) x
+more absent = absent
+more (present {x = x} h) = present {x = x} (omega arith)
+
+bucket-below : (thresholds : List ℕ) (us n : ℕ) → Below n (highestBelow thresholds us n)
+unfolding highestBelow
+bucket-below thresholds us zero = absent
+bucket-below thresholds us (suc n) =
+    either (reaches us (getD thresholds n 0)) (present (omega arith)) (more (bucket-below thresholds us n))
+
+kind-below : (c : Completion) → Below 3 (kindOf c)
+unfolding kindOf
+kind-below c =
+    either (eqb (c .opcode) 2) (present {x = 0} (omega arith))
+    (either (eqb (c .opcode) 1) (present {x = 1} (omega arith))
+    (either (eqb (c .opcode) 9) (present {x = 2} (omega arith)) absent))
+
+at-below : {b k : Option ℕ} → Below 4 b → Below 3 k → Below 12 (counterAt b k)
+at-below absent q = absent
+at-below (present p) absent = absent
+at-below (present {x = b} p) (present {x = k} q) = present {x = 3 * b + k} (omega arith)
+
+inside : {n x : ℕ} → Below n (some x) → x < n
+inside (present h) = h
+
+-- there are twelve counters
+pub counter-below : (s : Settings) (c : Completion) (n : ℕ) → counterOf s c ≡ some n → n < 12
+unfolding counterOf bucketOf
+counter-below s c n e =
+    inside (rw e at (either (s .enabled) (at-below (bucket-below (s .thresholds) (c .latency) 4) (kind-below c)) absent))

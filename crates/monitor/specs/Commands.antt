@@ -1,0 +1,64 @@
+-- A completion: the counter that it counts for, and its latency in ms.
+use Prim.Native.Nat.{ℕ, zero, suc, _+_, _*_, _/_, min}
+use mathlib.Core.Bool.{Bool, true, false, cond}
+use mathlib.Core.List.{List}
+use mathlib.Core.Option.{Option, none, some}
+use lib.Dec.{eqb, leb}
+use lib.ListN.{getD}
+use Rattle.logpage.specs.declared.Settings.{Settings}
+use Rattle.monitor.specs.declared.commands.Completion.{Completion}
+use Rattle.monitor.specs.declared.commands.Kind.{Kind}
+use Rattle.monitor.specs.declared.commands.Kind.the-variants.{Read, Write, Deallocate, Other}
+use Rattle.monitor.specs.declared.commands.Bucket.{Bucket}
+use Rattle.monitor.specs.declared.commands.Bucket.the-variants as bucket
+use Rattle.monitor.specs.declared.commands.Counter.{Counter}
+use Rattle.monitor.specs.declared.commands.Counter.the-variants as counter
+
+-- A kind is Read (0), Write (1) or Deallocate (2).
+abbrev pub saysKind : Kind → Option ℕ
+saysKind Read = some 0
+saysKind Write = some 1
+saysKind Deallocate = some 2
+saysKind Other = none
+
+abbrev pub saysBucket : Bucket → Option ℕ
+saysBucket (bucket.At b) = some b
+saysBucket bucket.Below = none
+
+abbrev pub saysCounter : Counter → Option ℕ
+saysCounter (counter.At n) = some n
+saysCounter counter.NotCounted = none
+
+-- Opcode 02h is Read, 01h Write, 09h Deallocate; the others are not counted.
+unfoldable pub kindOf : Completion → Option ℕ
+kindOf c =
+    cond (eqb (c .opcode) 2) (some 0)
+    (cond (eqb (c .opcode) 1) (some 1)
+    (cond (eqb (c .opcode) 9) (some 2) none))
+
+-- A threshold byte v means 5 × (v + 1) ms; at or above counts as reached.
+abbrev pub reaches : ℕ → ℕ → Bool
+reaches us v = leb (5000 * (v + 1)) us
+
+-- the highest bucket below n whose threshold is reached
+unfoldable pub highestBelow : List ℕ → ℕ → ℕ → Option ℕ
+highestBelow thresholds us zero = none
+highestBelow thresholds us (suc b) = cond (reaches us (getD thresholds b 0)) (some b) (highestBelow thresholds us b)
+
+-- The bucket is the highest one whose threshold it reaches; A to D belong to buckets 0 to 3. Below A it is not counted.
+unfoldable pub bucketOf : List ℕ → Completion → Option ℕ
+bucketOf thresholds c = highestBelow thresholds (c .latency) 4
+
+-- A pair is a bucket and a kind; its pair number is 3 × bucket + kind.
+abbrev pub counterAt : Option ℕ → Option ℕ → Option ℕ
+counterAt (some b) (some k) = some (3 * b + k)
+counterAt (some b) none = none
+counterAt none k = none
+
+-- With the monitor disabled it is not counted.
+unfoldable pub counterOf : Settings → Completion → Option ℕ
+counterOf s c = cond (s .enabled) (counterAt (bucketOf (s .thresholds) c) (kindOf c)) none
+
+-- The latency in whole ms is rounded down and held at 65,535.
+unfoldable pub latencyOf : Completion → ℕ
+latencyOf c = min (c .latency / 1000) 65535

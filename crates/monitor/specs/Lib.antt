@@ -1,0 +1,4 @@
+pub mod Answers
+pub mod Settings
+pub mod Commands
+pub mod Timer

@@ -1,0 +1,28 @@
+-- Elapsed time: the clock, and the steps of the active window.
+use mathlib.Core.Bool.{Bool, true, false, cond}
+use Prim.Native.Nat.{ℕ, _+_, _-_, _*_, min}
+use lib.Dec.{leb, ltb}
+use Rattle.monitor.specs.declared.timer.Tick.{Tick}
+
+-- The clock grows by it and holds at 281,474,976,710,655.
+abbrev pub grown : ℕ → ℕ → ℕ
+grown clock ms = min (clock + ms) 281474976710655
+
+-- When the steps reach the timer threshold, a new window starts and steps become 0; the partial step stays.
+abbrev stepped : ℕ → ℕ → ℕ → Tick
+stepped threshold timer partial =
+    record {
+      timer = cond (leb threshold timer) 0 timer;
+      partial = partial;
+      expired = leb threshold timer;
+    }
+
+-- The partial step grows by it; at 300,000 or more one step is taken and 300,000 is subtracted.
+unfoldable pub ticked : ℕ → ℕ → ℕ → ℕ → Tick
+ticked threshold timer partial ms =
+    cond (ltb (partial + ms) 300000) (record { timer = timer; partial = partial + ms; expired = false })
+    (stepped threshold (timer + 1) (partial + ms - 300000))
+
+-- time in the active window: document 01's steps and partial step, in ms
+abbrev pub inWindow : ℕ → ℕ → ℕ
+inWindow timer partial = timer * 300000 + partial

@@ -1,0 +1,79 @@
+// The 4,096 bytes of settings (source document 001, 4.15.11.1): which are accepted, and what they say.
+ghost use mathlib.Core.Path.{_≡_};
+ghost use mathlib.Core.Bool.{_||_};
+ghost use Prim.Native.Nat.{_≤_, _<_};
+ghost use lib.Dec.{leb, ltb};
+ghost use lib.ListN.{length};
+ghost use Rattle.monitor.specs.Answers.{saysAnswer, doneUnless};
+ghost use Rattle.monitor.specs.Settings.{refusal, fieldRefusal, eitherAbove, unordered, inBytes};
+use crate::answers::Answer;
+use crate::refusals;
+use logpage::Settings;
+
+pub const LENGTH: usize = 4096;
+
+// The settings that accepted bytes put in force.
+pub(crate) fn in_bytes(s: &[u8]) -> Settings
+    requires { ⌜ 12 < length (now s) ⌝ }
+    ensures { λ r. ⌜ r ≡ inBytes (now (s .entry)) ⌝ }
+{
+    Settings {
+        timer_threshold: endian::word(s[0], s[1]),
+        mode: endian::word(s[6], s[7]),
+        trigger: endian::word(s[9], s[10]),
+        thresholds: [s[2], s[3], s[4], s[5]],
+        minimum_window: s[8],
+        enabled: s[12] == 1,
+    }
+}
+
+// Whether one of two numbers is above a limit.
+fn either_above(top: u16, a: u16, b: u16) -> bool
+    ensures { λ r. ⌜ r ≡ eitherAbove top a b ⌝ }
+{
+    if top < a { true } else { top < b }
+}
+
+// Whether a threshold is above the next.
+fn unordered(t: [u8; 4]) -> bool
+    ensures { λ r. ⌜ r ≡ unordered t ⌝ }
+{
+    if t[1] < t[0] {
+        true
+    } else if t[2] < t[1] {
+        true
+    } else {
+        t[3] < t[2]
+    }
+}
+
+// Whether the fields are accepted, and the first rule that turns them away if not.
+fn check_fields(discard: u8, enable: u8, s: Settings) -> Answer
+    ensures { λ r. ⌜ saysAnswer r ≡ doneUnless (fieldRefusal discard enable s) ⌝ }
+{
+    let t = s.thresholds;
+    if either_above(1, discard as u16, enable as u16) {
+        Answer::Refused(refusals::FLAG_ABOVE_ONE)
+    } else if s.timer_threshold == 0 {
+        Answer::Refused(refusals::NO_TIMER_THRESHOLD)
+    } else if unordered(t) {
+        Answer::Refused(refusals::THRESHOLD_ORDER)
+    } else if either_above(4095, s.mode, s.trigger) {
+        Answer::Refused(refusals::RESERVED_BIT)
+    } else {
+        Answer::Done
+    }
+}
+
+// Whether settings are accepted, and the first rule that turns them away if not.
+pub(crate) fn check(s: &[u8]) -> Answer
+    ensures { λ r. ⌜ saysAnswer r ≡ doneUnless (refusal (now (s .entry))) ⌝ }
+{
+    if s.len() != LENGTH {
+        Answer::Refused(refusals::SETTINGS_LENGTH)
+    } else if endian::any_set(&s[13..]) {
+        Answer::Refused(refusals::RESERVED_BYTE)
+    } else {
+        check_fields(s[11], s[12], in_bytes(s))
+    }
+}

@@ -1,0 +1,67 @@
+// The active bucket timer: time in the active window, in steps of five minutes and ms since the last step.
+ghost use mathlib.Core.Path.{_≡_};
+ghost use Prim.Native.Nat.{_+_, _*_, _≤_, min};
+ghost use Rattle.monitor.specs.Timer.{ticked, inWindow, grown};
+
+// A step, in ms; also the most time that one call may bring.
+pub const STEP: u32 = 300_000;
+
+// The largest clock.
+pub const CLOCK_TOP: u64 = 281_474_976_710_655;
+
+// The timer after elapsed time.
+pub struct Tick {
+    pub timer: u16,
+    pub partial: u32,
+    // Whether the timer reached its threshold, which ends the active window.
+    pub expired: bool,
+}
+
+// The timer while enabled, after elapsed time.
+pub(crate) fn ticked(threshold: u16, timer: u16, partial: u32, ms: u32) -> Tick
+    requires { ⌜ ms ≤ 300000 ⌝ }
+    ensures { λ r. ⌜ r ≡ ticked threshold timer partial ms ⌝ }
+{
+    let sum = partial as u64 + ms as u64;
+    if sum < STEP as u64 {
+        Tick {
+            timer: timer,
+            partial: sum as u32,
+            expired: false,
+        }
+    } else {
+        let rest = (sum - STEP as u64) as u32;
+        let next = timer as u32 + 1;
+        if threshold as u32 <= next {
+            Tick {
+                timer: 0,
+                partial: rest,
+                expired: true,
+            }
+        } else {
+            Tick {
+                timer: next as u16,
+                partial: rest,
+                expired: false,
+            }
+        }
+    }
+}
+
+// Time in the active window, in ms.
+pub(crate) fn in_window(timer: u16, partial: u32) -> u64
+    ensures { λ r. ⌜ r ≡ inWindow timer partial ⌝ }
+{
+    timer as u64 * STEP as u64 + partial as u64
+}
+
+// The clock after elapsed time, held at its top.
+pub(crate) fn grown(clock: u64, ms: u32) -> u64
+    ensures { λ r. ⌜ r ≡ grown clock ms ⌝ }
+{
+    if clock < CLOCK_TOP - ms as u64 {
+        clock + ms as u64
+    } else {
+        CLOCK_TOP
+    }
+}
