@@ -1,7 +1,14 @@
 -- The plain fields of log page C3h.
 use mathlib.Core.Bool.{false}
+use Prim.Native.Nat.{ℕ}
 use lib.ListN.{replicate}
 use Rattle.logpage.specs.declared.Settings.{Settings}
+use Rattle.logpage.specs.declared.Window.{Window}
+use Rattle.logpage.specs.declared.DebugLog.{DebugLog}
+
+-- a stamp that is unset: FFFFFFFFFFFFFFFFh
+abbrev pub unset : ℕ
+unset = 0xffff_ffff_ffff_ffff
 
 -- A new monitor is disabled. All its settings are zero.
 unfoldable pub noSettings : Settings
@@ -14,3 +21,17 @@ noSettings =
       «minimum_window» = 0;
       enabled = false;
     }
+
+-- An empty window has count 0, stamp unset, shown latency 0 and mark 0.
+unfoldable pub emptyWindow : Window
+emptyWindow =
+    record {
+      stamps = replicate 12 unset;
+      counters = replicate 12 0;
+      latencies = replicate 12 0;
+      units = replicate 12 false;
+    }
+
+-- no debug record is held
+unfoldable pub noDebugLog : DebugLog
+noDebugLog = record { stamp = unset; latency = 0; source = 0; units = false }

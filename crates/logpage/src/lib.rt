@@ -1,11 +1,12 @@
 // The plain fields of log page C3h (source document 001, 4.8.9). Names of 001 are given where they differ.
 ghost use mathlib.Core.Path.{_≡_};
-ghost use Rattle.logpage.specs.Fields.{noSettings};
+ghost use Rattle.logpage.specs.Fields.{noSettings, emptyWindow, noDebugLog};
 
 // A latency stamp that is not set.
 pub const UNSET: u64 = 0xffff_ffff_ffff_ffff;
 
 // The settings in force.
+#[repr(C)]
 pub struct Settings {
     // Active Bucket Timer Threshold, in steps of five minutes.
     pub timer_threshold: u16,
@@ -33,6 +34,54 @@ impl Settings {
             thresholds: [0; 4],
             minimum_window: 0,
             enabled: false,
+        }
+    }
+}
+
+// What a window shows: for each of the twelve counters, by its number, the counter, the measured latency in ms, the
+// stamp units (set where the host had set the clock) and the latency stamp.
+#[repr(C)]
+pub struct Window {
+    pub counters: [u32; 12],
+    pub stamps: [u64; 12],
+    pub latencies: [u16; 12],
+    pub units: [bool; 12],
+}
+
+impl Window {
+    // A window in which nothing was counted.
+    pub fn empty() -> Self
+        ensures { λ r. ⌜ r ≡ emptyWindow ⌝ }
+    {
+        Window {
+            counters: [0; 12],
+            stamps: [UNSET; 12],
+            latencies: [0; 12],
+            units: [false; 12],
+        }
+    }
+}
+
+// The debug log's own fields. None is held where the stamp is unset.
+#[repr(C)]
+pub struct DebugLog {
+    pub stamp: u64,
+    pub latency: u16,
+    // Debug Counter Trigger Source: the counter as one set bit.
+    pub source: u16,
+    pub units: bool,
+}
+
+impl DebugLog {
+    // No debug log.
+    pub fn none() -> Self
+        ensures { λ r. ⌜ r ≡ noDebugLog ⌝ }
+    {
+        DebugLog {
+            stamp: UNSET,
+            latency: 0,
+            source: 0,
+            units: false,
         }
     }
 }

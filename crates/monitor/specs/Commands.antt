@@ -3,7 +3,7 @@ use Prim.Native.Nat.{ℕ, zero, suc, _+_, _*_, _/_, min}
 use mathlib.Core.Bool.{Bool, true, false, cond}
 use mathlib.Core.List.{List}
 use mathlib.Core.Option.{Option, none, some}
-use lib.Dec.{eqb, leb}
+use lib.Dec.{eqb, leb, ltb}
 use lib.ListN.{getD}
 use Rattle.logpage.specs.declared.Settings.{Settings}
 use Rattle.monitor.specs.declared.commands.Completion.{Completion}
@@ -11,8 +11,6 @@ use Rattle.monitor.specs.declared.commands.Kind.{Kind}
 use Rattle.monitor.specs.declared.commands.Kind.the-variants.{Read, Write, Deallocate, Other}
 use Rattle.monitor.specs.declared.commands.Bucket.{Bucket}
 use Rattle.monitor.specs.declared.commands.Bucket.the-variants as bucket
-use Rattle.monitor.specs.declared.commands.Counter.{Counter}
-use Rattle.monitor.specs.declared.commands.Counter.the-variants as counter
 
 -- A kind is Read (0), Write (1) or Deallocate (2).
 abbrev pub saysKind : Kind → Option ℕ
@@ -25,9 +23,9 @@ abbrev pub saysBucket : Bucket → Option ℕ
 saysBucket (bucket.At b) = some b
 saysBucket bucket.Below = none
 
-abbrev pub saysCounter : Counter → Option ℕ
-saysCounter (counter.At n) = some n
-saysCounter counter.NotCounted = none
+-- a number below 12 names a counter, any other none
+abbrev pub saysCounter : ℕ → Option ℕ
+saysCounter n = cond (ltb n 12) (some n) none
 
 -- Opcode 02h is Read, 01h Write, 09h Deallocate; the others are not counted.
 unfoldable pub kindOf : Completion → Option ℕ

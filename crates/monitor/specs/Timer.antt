@@ -8,7 +8,7 @@ use Rattle.monitor.specs.declared.timer.Tick.{Tick}
 abbrev pub grown : ℕ → ℕ → ℕ
 grown clock ms = min (clock + ms) 281474976710655
 
--- When the steps reach the timer threshold, a new window starts and steps become 0; the partial step stays.
+-- When the steps reach the timer threshold, the window ends and steps become 0; the partial step stays.
 abbrev stepped : ℕ → ℕ → ℕ → Tick
 stepped threshold timer partial =
     record {
@@ -17,12 +17,14 @@ stepped threshold timer partial =
       expired = leb threshold timer;
     }
 
--- The partial step grows by it; at 300,000 or more one step is taken and 300,000 is subtracted.
-unfoldable pub ticked : ℕ → ℕ → ℕ → ℕ → Tick
-ticked threshold timer partial ms =
-    cond (ltb (partial + ms) 300000) (record { timer = timer; partial = partial + ms; expired = false })
-    (stepped threshold (timer + 1) (partial + ms - 300000))
+-- If enabled, the partial step grows by it; at 300,000 or more one step is taken and 300,000 is subtracted.
+unfoldable pub ticked : Bool → (threshold timer partial ms : ℕ) → Tick
+ticked enabled threshold timer partial ms =
+    cond enabled
+    (cond (ltb (partial + ms) 300000) (record { timer = timer; partial = partial + ms; expired = false })
+    (stepped threshold (timer + 1) (partial + ms - 300000)))
+    (record { timer = timer; partial = partial; expired = false })
 
--- time in the active window: document 01's steps and partial step, in ms
+-- time in the active window: steps and partial step, in ms
 abbrev pub inWindow : ℕ → ℕ → ℕ
 inWindow timer partial = timer * 300000 + partial

@@ -1,7 +1,26 @@
-// What the calls answer.
+// What the calls answer. specs/Answers.antt gives the number and the values of document 01 for each case.
 
-// The answer of a call that has no other named: done, or the number of the rule that turned it away.
+// The answer of a call that has no other.
 pub enum Answer {
-    Done,
+    // The number of the rule that turned the call away.
     Refused(u8),
+    Done,
+}
+
+// The answer to a completion, which is never turned away.
+pub enum CompletionAnswer {
+    NotCounted,
+    // Counted, with the stamp as it was; whether a debug log was taken.
+    Counted { counter: u16, debug: bool },
+    // Counted, and the stamp loaded; whether a debug log was taken.
+    Loaded { counter: u16, debug: bool },
+}
+
+// The answer to elapsed time.
+pub enum ElapsedAnswer {
+    Refused(u8),
+    // The active window goes on.
+    Active,
+    // The active window ended, and is the static one now.
+    Ended,
 }

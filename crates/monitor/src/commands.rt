@@ -1,6 +1,8 @@
 // A completed command: the counter that it counts for, and its latency in ms.
 ghost use mathlib.Core.Path.{_≡_};
-ghost use Prim.Native.Nat.{_+_, _*_, _<_};
+ghost use mathlib.Core.Option.{some};
+ghost use Prim.Native.Nat.{_<_};
+ghost use lib.Dec.{ltb};
 ghost use Rattle.monitor.specs.Commands.{kindOf, bucketOf, counterAt, counterOf, latencyOf, saysKind, saysBucket, saysCounter};
 use logpage::Settings;
 
@@ -24,34 +26,27 @@ pub enum Bucket {
     Below,
 }
 
-// The number of a counter, 3 x bucket + kind.
-pub enum Counter {
-    At(usize),
-    NotCounted,
+// There are twelve counters; this is the number of none of them.
+pub const NOT_COUNTED: u16 = 12;
+
+// Whether a latency of so many steps of 5,000 microseconds reaches a threshold byte v, which means 5,000 x (v + 1).
+fn reaches(threshold: u8, steps: u32) -> bool
+    ensures { λ r. ⌜ r ≡ ltb threshold steps ⌝ }
+{
+    (threshold as u32) < steps
 }
 
-// A threshold byte in microseconds.
-fn microseconds(threshold: u8) -> u32
-    ensures { λ r. ⌜ r ≡ 5000 * (threshold + 1) ⌝ }
+// The number of the counter of a bucket and a kind.
+fn counter_at(bucket: u8, kind: Kind) -> u16
+    requires { ⌜ bucket < 4 ⌝ }
+    ensures { λ r. ⌜ saysCounter r ≡ counterAt (some bucket) (saysKind kind) ⌝ }
 {
-    5000 * (threshold as u32 + 1)
-}
-
-// The counter of a bucket and a kind.
-fn counter_at(bucket: Bucket, kind: Kind) -> Counter
-    ensures { λ r. ⌜ saysCounter r ≡ counterAt (saysBucket bucket) (saysKind kind) ⌝ }
-{
-    match bucket {
-        Bucket::At(b) => {
-            let read = 3 * (b as usize);
-            match kind {
-                Kind::Read => Counter::At(read),
-                Kind::Write => Counter::At(read + 1),
-                Kind::Deallocate => Counter::At(read + 2),
-                Kind::Other => Counter::NotCounted,
-            }
-        }
-        Bucket::Below => Counter::NotCounted,
+    let read = 3 * (bucket as u16);
+    match kind {
+        Kind::Read => read,
+        Kind::Write => read + 1,
+        Kind::Deallocate => read + 2,
+        Kind::Other => NOT_COUNTED,
     }
 }
 
@@ -73,14 +68,14 @@ impl Completion {
     pub(crate) fn bucket(self, thresholds: [u8; 4]) -> Bucket
         ensures { λ r. ⌜ saysBucket r ≡ bucketOf thresholds self ⌝ }
     {
-        let latency = self.latency;
+        let steps = self.latency / 5000;
         let mut b: u8 = 4;
         loop {
             if b == 0 {
                 break Bucket::Below;
             }
             b -= 1;
-            if microseconds(thresholds[b as usize]) <= latency {
+            if reaches(thresholds[b as usize], steps) {
                 break Bucket::At(b);
             }
         }
@@ -95,14 +90,17 @@ impl Completion {
     }
 
     // The counter that the completion counts for.
-    pub(crate) fn counter(self, s: Settings) -> Counter
+    pub(crate) fn counter(self, s: Settings) -> u16
         ensures { λ r. ⌜ saysCounter r ≡ counterOf s self ⌝ }
     {
         if s.enabled {
             let thresholds = s.thresholds;
-            counter_at(self.bucket(thresholds), self.kind())
+            match self.bucket(thresholds) {
+                Bucket::At(b) => counter_at(b, self.kind()),
+                Bucket::Below => NOT_COUNTED,
+            }
         } else {
-            Counter::NotCounted
+            NOT_COUNTED
         }
     }
 }

@@ -1,9 +1,17 @@
 // The latency monitor: its record, and the calls that take the record and hand back the next one.
 mod answers;
 mod commands;
+mod record;
 mod refusals;
 mod settings;
+mod stamps;
 mod timer;
 
 pub use answers::Answer;
+pub use answers::CompletionAnswer;
+pub use answers::ElapsedAnswer;
 pub use commands::Completion;
+pub use record::CompletionStep;
+pub use record::ElapsedStep;
+pub use record::Monitor;
+pub use record::Step;

@@ -1,13 +1,16 @@
 // The 4,096 bytes of settings (source document 001, 4.15.11.1): which are accepted, and what they say.
 ghost use mathlib.Core.Path.{_≡_};
-ghost use mathlib.Core.Bool.{_||_};
+ghost use mathlib.Core.Bool.{cond};
 ghost use Prim.Native.Nat.{_≤_, _<_};
-ghost use lib.Dec.{leb, ltb};
+ghost use lib.Dec.{eqb};
+ghost use Rattle.logpage.specs.Fields.{noDebugLog};
 ghost use lib.ListN.{length};
-ghost use Rattle.monitor.specs.Answers.{saysAnswer, doneUnless};
-ghost use Rattle.monitor.specs.Settings.{refusal, fieldRefusal, eitherAbove, unordered, inBytes};
+ghost use Rattle.monitor.specs.Answers.{done, saysAnswer, unlessRefused};
+ghost use Rattle.monitor.specs.Settings.{inBytes};
+ghost use Rattle.monitor.specs.Refusals.{settingsRefusal, fieldRefusal, eitherAbove, unordered};
 use crate::answers::Answer;
 use crate::refusals;
+use logpage::DebugLog;
 use logpage::Settings;
 
 pub const LENGTH: usize = 4096;
@@ -49,7 +52,7 @@ fn unordered(t: [u8; 4]) -> bool
 
 // Whether the fields are accepted, and the first rule that turns them away if not.
 fn check_fields(discard: u8, enable: u8, s: Settings) -> Answer
-    ensures { λ r. ⌜ saysAnswer r ≡ doneUnless (fieldRefusal discard enable s) ⌝ }
+    ensures { λ r. ⌜ saysAnswer r ≡ unlessRefused (fieldRefusal discard enable s) done ⌝ }
 {
     let t = s.thresholds;
     if either_above(1, discard as u16, enable as u16) {
@@ -67,7 +70,7 @@ fn check_fields(discard: u8, enable: u8, s: Settings) -> Answer
 
 // Whether settings are accepted, and the first rule that turns them away if not.
 pub(crate) fn check(s: &[u8]) -> Answer
-    ensures { λ r. ⌜ saysAnswer r ≡ doneUnless (refusal (now (s .entry))) ⌝ }
+    ensures { λ r. ⌜ saysAnswer r ≡ unlessRefused (settingsRefusal (now (s .entry))) done ⌝ }
 {
     if s.len() != LENGTH {
         Answer::Refused(refusals::SETTINGS_LENGTH)
@@ -76,4 +79,11 @@ pub(crate) fn check(s: &[u8]) -> Answer
     } else {
         check_fields(s[11], s[12], in_bytes(s))
     }
+}
+
+// The debug log after settings: none where they discard it.
+pub(crate) fn kept(log: DebugLog, discard: u8) -> DebugLog
+    ensures { λ r. ⌜ r ≡ cond (eqb discard 1) noDebugLog log ⌝ }
+{
+    if discard == 1 { DebugLog::none() } else { log }
 }

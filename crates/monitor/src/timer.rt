@@ -17,34 +17,39 @@ pub struct Tick {
     pub expired: bool,
 }
 
-// The timer while enabled, after elapsed time.
-pub(crate) fn ticked(threshold: u16, timer: u16, partial: u32, ms: u32) -> Tick
+// The timer after elapsed time, which it measures while enabled.
+pub(crate) fn ticked(enabled: bool, threshold: u16, timer: u16, partial: u32, ms: u32) -> Tick
     requires { ⌜ ms ≤ 300000 ⌝ }
-    ensures { λ r. ⌜ r ≡ ticked threshold timer partial ms ⌝ }
+    ensures { λ r. ⌜ r ≡ ticked enabled threshold timer partial ms ⌝ }
 {
-    let sum = partial as u64 + ms as u64;
-    if sum < STEP as u64 {
-        Tick {
-            timer: timer,
-            partial: sum as u32,
-            expired: false,
+    if enabled {
+        let sum = partial as u64 + ms as u64;
+        if sum < STEP as u64 {
+            return Tick {
+                timer: timer,
+                partial: sum as u32,
+                expired: false,
+            };
         }
-    } else {
         let rest = (sum - STEP as u64) as u32;
         let next = timer as u32 + 1;
-        if threshold as u32 <= next {
-            Tick {
-                timer: 0,
-                partial: rest,
-                expired: true,
-            }
-        } else {
-            Tick {
+        if next < threshold as u32 {
+            return Tick {
                 timer: next as u16,
                 partial: rest,
                 expired: false,
-            }
+            };
         }
+        return Tick {
+            timer: 0,
+            partial: rest,
+            expired: true,
+        };
+    }
+    Tick {
+        timer: timer,
+        partial: partial,
+        expired: false,
     }
 }
 

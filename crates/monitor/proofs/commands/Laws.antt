@@ -3,47 +3,48 @@ use mathlib.Core.Path.{_≡_, refl}
 use mathlib.Core.Bool.{Bool, true, false, cond}
 use mathlib.Core.List.{List}
 use mathlib.Core.Option.{Option, none, some}
-use Prim.Native.Nat.{ℕ, zero, suc, _+_, _*_, _-_, _≤_, _<_}
-use native.Mathlib.Nat.{not-suc-le-zero}
+use Prim.Native.Nat.{ℕ, zero, suc, _+_, _*_, _-_, _/_, _≤_, _<_}
+use native.Mathlib.Nat.{not-suc-le-zero, le-div-iff-mul-le, div-lt-iff-lt-mul}
 use native.Mathlib.Numerals.{sub-one}
 use native.Mathlib.Omega.{arith}
-use borrow.Author.Tests.{le-leb, lt-leb}
-use lib.Dec.{eqb}
+use borrow.Author.Tests.{le-leb, lt-leb, lt-ltb, ltb-true, ltb-false}
+use lib.Dec.{eqb, ltb}
 use lib.ListN.{getD}
 use Rattle.logpage.specs.declared.Settings.{Settings}
 use Rattle.monitor.specs.declared.commands.Completion.{Completion}
-use Rattle.monitor.specs.Commands.{highestBelow, reaches, bucketOf, kindOf, counterAt, counterOf}
+use Rattle.monitor.specs.Commands.{highestBelow, reaches, bucketOf, kindOf, counterAt, counterOf, saysCounter}
 
--- one step of the search down
-module _ (thresholds : List ℕ) (us n : ℕ) where
-  step :
+-- a threshold byte v is reached where v is below the latency's steps of 5,000
+reached : (us v : ℕ) → v < us / 5000 → 5000 * (v + 1) ≤ us
+reached us v h = omega (arith, le-div-iff-mul-le {k = 5000} {x = v + 1} {y = us} (omega arith) .0 (omega arith))
+
+passed : (us v : ℕ) → us / 5000 ≤ v → us < 5000 * (v + 1)
+passed us v h = omega (arith, div-lt-iff-lt-mul {k = 5000} {x = us} {y = v + 1} (omega arith) .0 (omega arith))
+
+-- one step of the search down, with the latency in steps
+module _ (thresholds : List ℕ) (us steps : ℕ) (e : us / 5000 ≡ steps) (n : ℕ) (p : 0 < n) where
+  down :
+      (n : ℕ) →
       0 < n →
       highestBelow thresholds us n ≡
       cond (reaches us (getD thresholds (n - 1) 0)) (some (n - 1)) (highestBelow thresholds us (n - 1))
   unfolding highestBelow
-  step h = down n h
-    where
-      down :
-          (n : ℕ) →
-          0 < n →
-          highestBelow thresholds us n ≡
-          cond (reaches us (getD thresholds (n - 1) 0)) (some (n - 1)) (highestBelow thresholds us (n - 1))
-      down zero h = absurd (not-suc-le-zero h)
-      down (suc n) h = rw (sub-one (suc n))
+  down zero h = absurd (not-suc-le-zero h)
+  down (suc n) h = rw (sub-one (suc n))
 
-  pub hit :
-      0 < n → 5000 * (getD thresholds (n - 1) 0 + 1) ≤ us → highestBelow thresholds us n ≡ some (n - 1)
-  hit p h = rw (step p, le-leb _ _ h)
+  pub hit : ltb (getD thresholds (n - 1) 0) steps ≡ true → highestBelow thresholds us n ≡ some (n - 1)
+  hit t = rw (down n p, le-leb _ _ (reached us (getD thresholds (n - 1) 0) (omega (arith, ltb-true _ steps t))))
 
-  pub miss :
-      0 < n →
-      us < 5000 * (getD thresholds (n - 1) 0 + 1) →
-      highestBelow thresholds us n ≡ highestBelow thresholds us (n - 1)
-  miss p h = rw (step p, lt-leb _ _ h)
+  pub miss : ltb (getD thresholds (n - 1) 0) steps ≡ false → highestBelow thresholds us n ≡ highestBelow thresholds us (n - 1)
+  miss t = rw (down n p, lt-leb _ _ (passed us (getD thresholds (n - 1) 0) (omega (arith, ltb-false _ steps t))))
 
 pub nothing : (thresholds : List ℕ) (us : ℕ) → highestBelow thresholds us 0 ≡ none
 unfolding highestBelow
 nothing thresholds us = refl
+
+-- a number below twelve names a counter
+pub named : (n : ℕ) → n < 12 → saysCounter n ≡ some n
+named n h = rw (lt-ltb n 12 h)
 
 -- a number that is found is below a limit
 data Below (n : ℕ) : Option ℕ → Type 0 where
@@ -78,6 +79,11 @@ at-below (present {x = b} p) (present {x = k} q) = present {x = 3 * b + k} (omeg
 
 inside : {n x : ℕ} → Below n (some x) → x < n
 inside (present h) = h
+
+-- there are four buckets
+pub bucket-few : (thresholds : List ℕ) (c : Completion) (b : ℕ) → bucketOf thresholds c ≡ some b → b < 4
+unfolding bucketOf
+bucket-few thresholds c b e = inside (rw e at (bucket-below thresholds (c .latency) 4))
 
 -- there are twelve counters
 pub counter-below : (s : Settings) (c : Completion) (n : ℕ) → counterOf s c ≡ some n → n < 12

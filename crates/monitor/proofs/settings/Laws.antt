@@ -1,50 +1,72 @@
 -- The rows that turn settings away, a law for each: the rows before it do not apply, and it does.
-use mathlib.Core.Path.{_≡_}
-use mathlib.Core.Bool.{true, false}
+use mathlib.Core.Path.{_≡_, refl}
+use mathlib.Core.Bool.{Bool, true, false}
+use mathlib.Core.Option.{Option, some, none}
 use mathlib.Core.List.{List}
 use Prim.Native.Nat.{ℕ}
+use native.Mathlib.Omega.{arith}
+use lib.Dec.{eqb}
 use lib.ListN.{length, drop}
-use borrow.Author.Tests.{eq-eqb, ne-eqb}
+use borrow.Author.Tests.{eq-eqb, ne-eqb, eqb-true}
 use Rattle.endian.specs.Bytes.{anySet}
 use Rattle.logpage.specs.declared.Settings.{Settings}
-use Rattle.monitor.specs.Answers.{done, refused, doneUnless}
-use Rattle.monitor.specs.Settings.{refusal, fieldRefusal, eitherAbove, unordered, inBytes}
+use Rattle.monitor.specs.Answers.{done, refused, unlessRefused}
+use Rattle.monitor.specs.Settings.{inBytes}
+use Rattle.monitor.specs.Refusals.{settingsRefusal, fieldRefusal, eitherAbove, unordered}
 use Rattle.monitor.specs.Settings.{discard as discardOf, enable as enableOf}
 
+-- what an answer tells of the row
+pub not-refused : (r : Option ℕ) → done ≡ unlessRefused r done → r ≡ none
+not-refused none e = refl
+not-refused (some n) e = cc
+
+pub refused-by : (r : Option ℕ) (n : ℕ) → refused n ≡ unlessRefused r done → r ≡ some n
+refused-by none n e = let z : _≡_ {A = ℕ} 0 1 = cc in absurd (omega arith)
+refused-by (some k) n e = cc
+
+-- accepted settings are 4,096 bytes
+pub accepted-length : (s : List ℕ) → settingsRefusal s ≡ none → length s ≡ 4096
+unfolding settingsRefusal
+accepted-length s e = by (eqb (length s) 4096) refl
+  where
+    by : (t : Bool) → eqb (length s) 4096 ≡ t → length s ≡ 4096
+    by true h = eqb-true (length s) 4096 h
+    by false h = let z : _≡_ {A = Option ℕ} (some 1) none = rw (h, settingsRefusal) at e in let y : _≡_ {A = ℕ} 0 1 = cc in absurd (omega arith)
+
 module _ (s : List ℕ) where
-  pub length-refused : (length s ≡ 4096 → ⊥) → refused 1 ≡ doneUnless (refusal s)
-  unfolding refusal
+  pub length-refused : (length s ≡ 4096 → ⊥) → refused 1 ≡ unlessRefused (settingsRefusal s) done
+  unfolding settingsRefusal
   length-refused other = rw (ne-eqb (length s) 4096 other)
 
   module _ (whole : length s ≡ 4096) where
-    pub reserved-refused : anySet (drop 13 s) ≡ true → refused 2 ≡ doneUnless (refusal s)
-    unfolding refusal
+    pub reserved-refused : anySet (drop 13 s) ≡ true → refused 2 ≡ unlessRefused (settingsRefusal s) done
+    unfolding settingsRefusal
     reserved-refused used = rw (eq-eqb (length s) 4096 whole, used)
 
-    pub fields-decide : anySet (drop 13 s) ≡ false → doneUnless (fieldRefusal (discardOf s) (enableOf s) (inBytes s)) ≡ doneUnless (refusal s)
-    unfolding refusal
+    pub fields-decide : anySet (drop 13 s) ≡ false → unlessRefused (fieldRefusal (discardOf s) (enableOf s) (inBytes s)) done ≡ unlessRefused (settingsRefusal s) done
+    unfolding settingsRefusal
     fields-decide clear = rw (eq-eqb (length s) 4096 whole, clear)
 
 module _ (discard enable : ℕ) (s : Settings) where
-  pub flags-refused : eitherAbove 1 discard enable ≡ true → refused 3 ≡ doneUnless (fieldRefusal discard enable s)
+  pub flags-refused : eitherAbove 1 discard enable ≡ true → refused 3 ≡ unlessRefused (fieldRefusal discard enable s) done
   unfolding fieldRefusal
   flags-refused above = rw above
 
   module _ (flags : eitherAbove 1 discard enable ≡ false) where
-    pub timer-refused : s .«timer_threshold» ≡ 0 → refused 4 ≡ doneUnless (fieldRefusal discard enable s)
+    pub timer-refused : s .«timer_threshold» ≡ 0 → refused 4 ≡ unlessRefused (fieldRefusal discard enable s) done
     unfolding fieldRefusal
     timer-refused zero = rw (flags, eq-eqb (s .«timer_threshold») 0 zero)
 
     module _ (timed : s .«timer_threshold» ≡ 0 → ⊥) where
-      pub order-refused : unordered (s .thresholds) ≡ true → refused 5 ≡ doneUnless (fieldRefusal discard enable s)
+      pub order-refused : unordered (s .thresholds) ≡ true → refused 5 ≡ unlessRefused (fieldRefusal discard enable s) done
       unfolding fieldRefusal
       order-refused above = rw (flags, ne-eqb (s .«timer_threshold») 0 timed, above)
 
       module _ (order : unordered (s .thresholds) ≡ false) where
-        pub bits-refused : eitherAbove 4095 (s .mode) (s .trigger) ≡ true → refused 6 ≡ doneUnless (fieldRefusal discard enable s)
+        pub bits-refused : eitherAbove 4095 (s .mode) (s .trigger) ≡ true → refused 6 ≡ unlessRefused (fieldRefusal discard enable s) done
         unfolding fieldRefusal
         bits-refused above = rw (flags, ne-eqb (s .«timer_threshold») 0 timed, order, above)
 
-        pub fields-accepted : eitherAbove 4095 (s .mode) (s .trigger) ≡ false → done ≡ doneUnless (fieldRefusal discard enable s)
+        pub fields-accepted : eitherAbove 4095 (s .mode) (s .trigger) ≡ false → done ≡ unlessRefused (fieldRefusal discard enable s) done
         unfolding fieldRefusal
         fields-accepted clear = rw (flags, ne-eqb (s .«timer_threshold») 0 timed, order, clear)

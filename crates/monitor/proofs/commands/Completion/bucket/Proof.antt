@@ -1,7 +1,6 @@
 -- `Completion::bucket`: the buckets passed were not reached, so the search among those left decides.
-use mathlib.Core.Path.{_≡_, sym, _∙_}
-use Prim.Native.Nat.{_≤_}
-use native.Mathlib.Omega.{arith}
+use mathlib.Core.Path.{_≡_, refl, sym, _∙_}
+use Prim.Native.Nat.{ℕ, _/_, _≤_}
 use borrow.Author.Needs.{needs}
 use Rattle.monitor.specs.Commands.{highestBelow, bucketOf}
 use Rattle.monitor.proofs.commands.Laws.{hit, miss, nothing}
@@ -9,44 +8,44 @@ use Rattle.monitor.proofs.commands.Completion.bucket.Statement.{stateme
 use Rattle.monitor.proofs.commands.Completion.bucket.Tie as tie
 
 abbrev Inv-loop : tie.InvT-loop
-Inv-loop thresholds latency b₀ b =
-    (b ≤ 4) × (highestBelow thresholds latency b ≡ highestBelow thresholds latency 4)
+Inv-loop thresholds steps b₀ b =
+    (b ≤ 4) ×
+    ((us : ℕ) → us / 5000 ≡ steps → highestBelow thresholds us b ≡ highestBelow thresholds us 4)
 
 abbrev μ-loop : tie.MeasureT-loop
-μ-loop thresholds latency b₀ b = b
+μ-loop thresholds steps b₀ b = b
 
 loop-holds : tie.Need-loop-holds Inv-loop μ-loop
-loop-holds c = search needs
+loop-holds c = (search needs, λ us e. refl)
 
 sub-b : tie.Need-sub-b Inv-loop μ-loop
 sub-b c = search needs
 
-cast-microseconds : tie.Need-cast-microseconds Inv-loop μ-loop
-cast-microseconds c = search needs
+cast-reaches : tie.Need-cast-reaches Inv-loop μ-loop
+cast-reaches c = search needs
 
-array-read-microseconds : tie.Need-array-read-microseconds Inv-loop μ-loop
-array-read-microseconds c = search needs
+array-read-reaches : tie.Need-array-read-reaches Inv-loop μ-loop
+array-read-reaches c = search needs
 
-microseconds-requires : tie.Need-microseconds-requires Inv-loop μ-loop
-microseconds-requires c κs = search needs
+reaches-requires : tie.Need-reaches-requires Inv-loop μ-loop
+reaches-requires c κs = search needs
 
 loop-less : tie.Need-loop-less Inv-loop μ-loop
 loop-less c = search needs
 
 loop-again : tie.Need-loop-again Inv-loop μ-loop
-loop-again c = (
-  search needs,
-  sym (miss _ _ (c .before .before .before .loop .b) (search needs) (omega arith)) ∙ c .before .before .before .loop .inv .1,
-)
+loop-again c =
+    (search needs,
+    λ us e. sym (miss _ us _ e (c .before .before .before .loop .b) (search needs) (sym (c .before .reaches .ensures) ∙ c .if2 .left)) ∙ c .before .before .before .loop .inv .1 us e)
 
 returns : tie.Need-returns Inv-loop μ-loop
 unfolding bucketOf
-returns c = sym (nothing _ _) ∙ (rw (c .if1 .taken) at (c .before .loop .inv .1))
+returns c = sym (nothing _ _) ∙ (rw (c .if1 .taken) at (c .before .loop .inv .1 _ refl))
 
 returns-2 : tie.Need-returns-2 Inv-loop μ-loop
 unfolding bucketOf
 returns-2 c =
-    sym (hit _ _ (c .before .before .before .loop .b) (search needs) (omega arith)) ∙ c .before .before .before .loop .inv .1
+    sym (hit _ _ _ refl (c .before .before .before .loop .b) (search needs) (sym (c .before .reaches .ensures) ∙ c .if2 .taken)) ∙ c .before .before .before .loop .inv .1 _ refl
 
 pub bucket-spec : {M : Type 1} → statement M
 bucket-spec =
@@ -56,9 +55,9 @@ bucket-spec =
     μ-loop
     loop-holds
     sub-b
-    cast-microseconds
-    array-read-microseconds
-    microseconds-requires
+    cast-reaches
+    array-read-reaches
+    reaches-requires
     loop-less
     loop-again
     returns

@@ -1,5 +1,7 @@
--- `Completion::counter`: enabled, and disabled.
-use Rattle.monitor.specs.Commands.{counterOf}
+-- `Completion::counter`: in a bucket, below the buckets, and disabled.
+use mathlib.Core.Path.{_≡_, sym, ap, _∙_}
+use Rattle.monitor.specs.Commands.{counterOf, saysBucket}
+use Rattle.monitor.proofs.commands.Laws.{bucket-few}
 use borrow.Author.Needs.{needs}
 use Rattle.monitor.proofs.commands.Completion.counter.Statement.{statement}
 use Rattle.monitor.proofs.commands.Completion.counter.Tie as tie
@@ -7,22 +9,43 @@ use Rattle.monitor.proofs.commands.Completion.counter.Tie as tie
 bucket-requires : tie.Need-bucket-requires
 bucket-requires c κs = search needs
 
+enum-known-b : tie.Need-enum-known-b
+enum-known-b c = search needs
+
 kind-requires : tie.Need-kind-requires
 kind-requires c κs = search needs
 
 counter-at-requires : tie.Need-counter-at-requires
-counter-at-requires c κs = search needs
+counter-at-requires c κs =
+    bucket-few _ _ _ (sym (c .before .before .before .before .bucket .ensures) ∙ ap saysBucket (c .before .before .b .given .1))
+
+enum-told : tie.Need-enum-told
+enum-told c = search needs
 
 returns : tie.Need-returns
 unfolding counterOf
 returns c =
-    rw (c .before .before .before .before .if1 .taken, ← c .before .before .bucket .ensures, ← c .before .kind .ensures)
+    rw (c .before .before .before .before .before .before .before .if1 .taken, sym (c .before .before .before .before .before .bucket .ensures) ∙ ap saysBucket (c .before .before .before .b .given .1), ← c .before .kind .ensures)
     (c .counter-at .ensures)
 
 returns-2 : tie.Need-returns-2
 unfolding counterOf
-returns-2 c = rw (c .if1 .left)
+returns-2 c =
+    rw (c .before .before .before .before .if1 .taken, sym (c .before .before .bucket .ensures) ∙ ap saysBucket (c .enum-told .given .1))
+
+returns-3 : tie.Need-returns-3
+unfolding counterOf
+returns-3 c = rw (c .if1 .left)
 
 pub counter-spec : {M : Type 1} → statement M
 counter-spec =
-    tie.close (tie.spec bucket-requires kind-requires counter-at-requires returns returns-2)
+    tie.close
+    (tie.spec
+    bucket-requires
+    enum-known-b
+    kind-requires
+    counter-at-requires
+    enum-told
+    returns
+    returns-2
+    returns-3)

@@ -1,0 +1,116 @@
+-- What the calls' branches come to, as laws over plain values.
+use mathlib.Core.Path.{_≡_, refl}
+use mathlib.Core.Bool.{Bool, true, false, cond}
+use mathlib.Core.List.{List}
+use mathlib.Core.Option.{Option, some, none}
+use Prim.Native.Nat.{ℕ, _≤_, _<_}
+use lib.Dec.{eqb}
+use borrow.Author.Tests.{lt-ltb, le-ltb}
+use Rattle.logpage.specs.Fields.{emptyWindow, noDebugLog}
+use Rattle.logpage.specs.declared.DebugLog.{DebugLog}
+use Rattle.logpage.specs.declared.Settings.{Settings}
+use Rattle.logpage.specs.declared.Window.{Window}
+use Rattle.monitor.specs.declared.record.Monitor.{Monitor}
+use Rattle.monitor.specs.declared.timer.Tick.{Tick}
+use Rattle.monitor.specs.Answers.{done, refused, ended, unlessRefused}
+use Rattle.monitor.specs.Refusals.{settingsRefusal, elapsedRefusal}
+use Rattle.monitor.specs.Settings.{discard, inBytes}
+use Rattle.monitor.specs.Timer.{grown, ticked}
+use Rattle.monitor.proofs.settings.Laws.{refused-by}
+use Rattle.monitor.specs.Record.{noLoads, afterSettings, settingsReply, afterElapsed, elapsedReply}
+
+-- settings that are turned away
+pub settings-refused :
+    (m : Monitor) (s : List ℕ) (n : ℕ) →
+    refused n ≡ unlessRefused (settingsRefusal s) done →
+    (m ≡ afterSettings m s) × (refused n ≡ settingsReply s)
+unfolding afterSettings settingsReply
+settings-refused m s n e = (rw (refused-by (settingsRefusal s) n e), e)
+
+-- settings that are accepted
+module _ (m : Monitor) (s : List ℕ) (accepted : settingsRefusal s ≡ none) (next : Settings) (debug : DebugLog)
+    (read : next ≡ inBytes s)
+    (keeps : debug ≡ cond (eqb (discard s) 1) noDebugLog (m .debug)) where
+  pub configured-on :
+      next .enabled ≡ true →
+      (w : Window) →
+      w ≡ emptyWindow →
+      (_≡_ {A = Monitor}
+      (record {
+        settings = next;
+        timer = 0;
+        host = m .host;
+        partial = 0;
+        clock = m .clock;
+        loaded = noLoads;
+        «active_window» = w;
+        «static_window» = w;
+        debug = debug;
+      })
+      (afterSettings m s)) ×
+      (done ≡ settingsReply s)
+  unfolding afterSettings settingsReply
+  configured-on e w we = (rw (accepted, ← read, e, we, keeps), rw accepted)
+
+  pub configured-off :
+      next .enabled ≡ false →
+      (_≡_ {A = Monitor}
+      (record {
+        settings = next;
+        timer = m .timer;
+        host = m .host;
+        partial = m .partial;
+        clock = m .clock;
+        loaded = m .loaded;
+        «active_window» = m .«active_window»;
+        «static_window» = m .«static_window»;
+        debug = debug;
+      })
+      (afterSettings m s)) ×
+      (done ≡ settingsReply s)
+  unfolding afterSettings settingsReply
+  configured-off e = (rw (accepted, ← read, e, keeps), rw accepted)
+
+-- elapsed time that is accepted
+module _ (m : Monitor) (ms : ℕ) (fits : ms ≤ 300000) (t : Tick) (clock : ℕ)
+    (ticks : t ≡ ticked (m .settings .enabled) (m .settings .«timer_threshold») (m .timer) (m .partial) ms)
+    (grows : clock ≡ grown (m .clock) ms) where
+  pub window-ended :
+      t .expired ≡ true →
+      (w : Window) →
+      w ≡ emptyWindow →
+      (_≡_ {A = Monitor}
+      (record {
+        settings = m .settings;
+        timer = t .timer;
+        host = m .host;
+        partial = t .partial;
+        clock = clock;
+        loaded = noLoads;
+        «active_window» = w;
+        «static_window» = m .«active_window»;
+        debug = m .debug;
+      })
+      (afterElapsed m ms)) ×
+      (ended true ≡ elapsedReply m ms)
+  unfolding afterElapsed elapsedReply elapsedRefusal
+  window-ended e w we = (rw (le-ltb _ _ fits, ← ticks, e, we, grows), rw (le-ltb _ _ fits, ← ticks, e))
+
+  pub window-active :
+      t .expired ≡ false →
+      (_≡_ {A = Monitor}
+      (record {
+        settings = m .settings;
+        timer = t .timer;
+        host = m .host;
+        partial = t .partial;
+        clock = clock;
+        loaded = m .loaded;
+        «active_window» = m .«active_window»;
+        «static_window» = m .«static_window»;
+        debug = m .debug;
+      })
+      (afterElapsed m ms)) ×
+      (ended false ≡ elapsedReply m ms)
+  unfolding afterElapsed elapsedReply elapsedRefusal
+  window-active e = (rw (le-ltb _ _ fits, ← ticks, e, grows), rw (le-ltb _ _ fits, ← ticks, e))

@@ -1,0 +1,122 @@
+use borrow.Author.Needs.{needs}
+use Rattle.monitor.proofs.record.Monitor.completion.Statement.{statement}
+use Rattle.monitor.proofs.record.Monitor.completion.Tie as tie
+use Rattle.monitor.proofs.record.Monitor.completion.Reads as reads
+use Rattle.monitor.proofs.record.Monitor.completion.Lts as lts
+use Rattle.monitor.proofs.commands.Completion.counter.Reads as counter-reads
+use Rattle.monitor.proofs.commands.Completion.milliseconds.Reads as milliseconds-reads
+use Rattle.monitor.proofs.stamps.bit.Reads as bit-reads
+use Rattle.monitor.proofs.stamps.counted_at.Reads as counted-at-reads
+use Rattle.monitor.proofs.stamps.loads.Reads as loads-reads
+use Rattle.monitor.proofs.stamps.logged.Reads as logged-reads
+use Rattle.monitor.proofs.stamps.triggers.Reads as triggers-reads
+use Rattle.monitor.proofs.timer.in_window.Reads as in-window-reads
+
+counter-requires : tie.Need-counter-requires
+counter-requires c κs = search needs
+
+cast-n : tie.Need-cast-n
+cast-n c = search needs
+
+milliseconds-requires : tie.Need-milliseconds-requires
+milliseconds-requires c κs = search needs
+
+in-window-requires : tie.Need-in-window-requires
+in-window-requires c κs = search needs
+
+bit-requires : tie.Need-bit-requires
+bit-requires c κs = search needs
+
+triggers-requires : tie.Need-triggers-requires
+triggers-requires c κs = search needs
+
+logged-requires : tie.Need-logged-requires
+logged-requires c κs = search needs
+
+counted-at-requires : tie.Need-counted-at-requires
+counted-at-requires c κs = search needs
+
+mul-t25 : tie.Need-mul-t25
+mul-t25 c = search needs
+
+array-read-t28 : tie.Need-array-read-t28
+array-read-t28 c = search needs
+
+mul-t29 : tie.Need-mul-t29
+mul-t29 c = search needs
+
+array-read-t32 : tie.Need-array-read-t32
+array-read-t32 c = search needs
+
+mul-t33 : tie.Need-mul-t33
+mul-t33 c = search needs
+
+array-read-t36 : tie.Need-array-read-t36
+array-read-t36 c = search needs
+
+bit-requires-2 : tie.Need-bit-requires-2
+bit-requires-2 c κs = search needs
+
+loads-requires : tie.Need-loads-requires
+loads-requires c κs = search needs
+
+mul-stamps : tie.Need-mul-stamps
+mul-stamps c = search needs
+
+array-write-stamps : tie.Need-array-write-stamps
+array-write-stamps c = search needs
+
+mul-latencies : tie.Need-mul-latencies
+mul-latencies c = search needs
+
+array-write-latencies : tie.Need-array-write-latencies
+array-write-latencies c = search needs
+
+array-write-units : tie.Need-array-write-units
+array-write-units c = search needs
+
+mul-loaded : tie.Need-mul-loaded
+mul-loaded c = search needs
+
+array-write-loaded : tie.Need-array-write-loaded
+array-write-loaded c = search needs
+
+returns : tie.Need-returns
+returns c = ?
+
+returns-2 : tie.Need-returns-2
+returns-2 c = ?
+
+returns-3 : tie.Need-returns-3
+returns-3 c = ?
+
+pub completion-spec : {M : Type 1} → statement M
+completion-spec =
+    tie.close
+    (tie.spec
+    counter-requires
+    cast-n
+    milliseconds-requires
+    in-window-requires
+    bit-requires
+    triggers-requires
+    logged-requires
+    counted-at-requires
+    mul-t25
+    array-read-t28
+    mul-t29
+    array-read-t32
+    mul-t33
+    array-read-t36
+    bit-requires-2
+    loads-requires
+    mul-stamps
+    array-write-stamps
+    mul-latencies
+    array-write-latencies
+    array-write-units
+    mul-loaded
+    array-write-loaded
+    returns
+    returns-2
+    returns-3)

@@ -1,0 +1,63 @@
+-- `Monitor::configure`: turned away by rows 1 to 6; enable 1; enable 0.
+use mathlib.Core.Path.{_≡_, sym, ap, _∙_}
+use mathlib.Core.Option.{none}
+use native.Mathlib.Omega.{arith}
+use Rattle.monitor.specs.Answers.{saysAnswer}
+use Rattle.monitor.specs.Refusals.{settingsRefusal}
+use Rattle.monitor.proofs.settings.Laws.{not-refused, accepted-length}
+use Rattle.monitor.proofs.record.Laws.{settings-refused, configured-on, configured-off}
+use borrow.Author.Needs.{needs}
+use Rattle.monitor.proofs.record.Monitor.configure.Statement.{statement}
+use Rattle.monitor.proofs.record.Monitor.configure.Tie as tie
+
+check-requires : tie.Need-check-requires
+check-requires c κs = search needs
+
+enum-known-n : tie.Need-enum-known-n
+enum-known-n c = search needs
+
+enum-told : tie.Need-enum-told
+enum-told c = search needs
+
+-- where `check` said done, no row turned the settings away
+accepted : (c : tie.After-enum-told) → settingsRefusal (c .before .before .before .before .args .s .now) ≡ none
+accepted c = not-refused _ (sym (ap saysAnswer (c .enum-told .given .1)) ∙ c .before .before .check .ensures)
+
+in-bytes-requires : tie.Need-in-bytes-requires
+in-bytes-requires c κs = omega (arith, accepted-length _ (accepted c))
+
+shared-slice-read-kept : tie.Need-shared-slice-read-kept
+shared-slice-read-kept c = omega (arith, accepted-length _ (accepted (c .before .before .before)))
+
+kept-requires : tie.Need-kept-requires
+kept-requires c κs = search needs
+
+empty-requires : tie.Need-empty-requires
+empty-requires c κs = search needs
+
+returns : tie.Need-returns
+returns c =
+    settings-refused _ _ _ (sym (ap saysAnswer (c .before .n .given .1)) ∙ c .before .before .before .check .ensures)
+
+returns-2 : tie.Need-returns-2
+returns-2 c =
+    configured-on _ _ (accepted (c .before .before .before .before .before .before .before)) _ _ (c .before .before .before .before .before .before .in-bytes .ensures) (c .before .before .before .kept .ensures) (c .before .before .if1 .taken) _ (c .before .empty .ensures)
+
+returns-3 : tie.Need-returns-3
+returns-3 c =
+    configured-off _ _ (accepted (c .before .before .before .before .before)) _ _ (c .before .before .before .before .in-bytes .ensures) (c .before .kept .ensures) (c .if1 .left)
+
+pub configure-spec : {M : Type 1} → statement M
+configure-spec =
+    tie.close
+    (tie.spec
+    check-requires
+    enum-known-n
+    enum-told
+    in-bytes-requires
+    shared-slice-read-kept
+    kept-requires
+    empty-requires
+    returns
+    returns-2
+    returns-3)

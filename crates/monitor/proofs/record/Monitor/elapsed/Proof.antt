@@ -1,0 +1,31 @@
+-- `Monitor::elapsed`: the window ends; it goes on; turned away by row 7.
+use borrow.Author.Tests.{lt-ltb}
+use Rattle.monitor.specs.Refusals.{elapsedRefusal}
+use Rattle.monitor.proofs.record.Laws.{window-ended, window-active}
+use Rattle.monitor.specs.Record.{afterElapsed, elapsedReply}
+use borrow.Author.Needs.{needs}
+use Rattle.monitor.proofs.record.Monitor.elapsed.Statement.{statement}
+use Rattle.monitor.proofs.record.Monitor.elapsed.Tie as tie
+
+ticked-requires : tie.Need-ticked-requires
+ticked-requires c κs = search needs
+
+grown-requires : tie.Need-grown-requires
+grown-requires c κs = search needs
+
+empty-requires : tie.Need-empty-requires
+empty-requires c κs = search needs
+
+returns : tie.Need-returns
+returns c =
+    window-ended _ _ (c .before .before .before .before .before .before .if1 .taken) _ _ (c .before .before .before .before .before .ticked .ensures) (c .before .before .before .before .grown .ensures) (c .before .before .before .if2 .taken) _ (c .before .empty .ensures)
+
+returns-2 : tie.Need-returns-2
+returns-2 c = window-active _ _ (c .before .before .before .if1 .taken) _ _ (c .before .before .ticked .ensures) (c .before .grown .ensures) (c .if2 .left)
+
+returns-3 : tie.Need-returns-3
+unfolding afterElapsed elapsedReply elapsedRefusal
+returns-3 c = (simp (lt-ltb _ _ (c .if1 .left)), simp (lt-ltb _ _ (c .if1 .left)))
+
+pub elapsed-spec : {M : Type 1} → statement M
+elapsed-spec = tie.close (tie.spec ticked-requires grown-requires empty-requires returns returns-2 returns-3)

@@ -1,0 +1,69 @@
+-- Laws of counting.
+use mathlib.Core.Path.{_≡_, refl, sym, _∙_}
+use mathlib.Core.Bool.{Bool, true, false, cond}
+use mathlib.Core.List.{List}
+use Prim.Native.Nat.{ℕ, _+_, _*_, _≤_, _<_}
+use native.Mathlib.Nat.{zero-mul}
+use native.Mathlib.Omega.{arith}
+use borrow.Author.Tests.{eq-eqb, ne-eqb, lt-ltb, le-ltb, eqb-true, eqb-false, ltb-true, ltb-false}
+use lib.Dec.{eqb, ltb}
+use lib.ListN.{getD, set}
+use lib.Seq.{set-getD}
+use Rattle.monitor.specs.Stamps.{onceMore}
+
+-- a flag as a number
+abbrev one : Bool → ℕ
+one b = cond b 1 0
+
+-- one more, unless the counter is at its top
+module _ (counter : ℕ) where
+  counts-by : (here : Bool) (t : Bool) → ltb counter 4294967295 ≡ t → counter < 4294967296 → counter + one here * one t ≡ cond here (onceMore counter) counter
+  counts-by true true e h = omega (arith, ltb-true counter 4294967295 e)
+  counts-by true false e h = omega (arith, ltb-false counter 4294967295 e)
+  counts-by false t e h = omega (arith, zero-mul (one t))
+
+  pub counts :
+      (here : Bool) →
+      counter < 4294967296 →
+      counter + one here * one (ltb counter 4294967295) ≡ cond here (onceMore counter) counter
+  counts here h = counts-by here (ltb counter 4294967295) refl h
+
+  pub counted-fits : (here : Bool) → counter < 4294967296 → cond here (onceMore counter) counter < 4294967296
+  counted-fits true h = omega arith
+  counted-fits false h = h
+
+pub flags-fit : (a b : Bool) → one a * one b < 4294967296
+flags-fit true true = omega arith
+flags-fit true false = omega arith
+flags-fit false b = omega (arith, zero-mul (one b))
+
+-- a list that is written whole, changed at one place alone, is a store at that place
+module _ (f : ℕ → ℕ) (l : List ℕ) (n : ℕ) where
+  -- the list with what stands below i written
+  abbrev pub written : ℕ → List ℕ
+  written i = cond (ltb n i) (set l n (f (getD l n 0))) l
+
+  pub none-written : l ≡ written 0
+  none-written = rw (le-ltb n 0 (omega arith))
+
+  pub all-written : (i : ℕ) → n < i → written i ≡ set l n (f (getD l n 0))
+  all-written i h = rw (lt-ltb n i h)
+
+  -- one more place
+  pub write-more :
+      (m : List ℕ) (i : ℕ) →
+      m ≡ written i →
+      set m i (cond (eqb i n) (f (getD m i 0)) (getD m i 0)) ≡ written (i + 1)
+  write-more m i e = by (eqb i n) refl
+    where
+      other : (t : Bool) → ltb n i ≡ t → (i ≡ n → ⊥) → m ≡ written (i + 1)
+      other true h no-match =
+          e ∙ (rw (h, lt-ltb n (i + 1) (omega (arith, ltb-true n i h))))
+      other false h no-match =
+          e ∙ (rw (h, le-ltb n (i + 1) (omega (arith, ltb-false n i h))))
+      by : (t : Bool) → eqb i n ≡ t → set m i (cond t (f (getD m i 0)) (getD m i 0)) ≡ written (i + 1)
+      by true h =
+          let at : i ≡ n = eqb-true i n h in
+          let same : m ≡ l = e ∙ (rw (le-ltb n i (omega arith))) in
+          rw (same, at, lt-ltb n (n + 1) (omega arith))
+      by false h = set-getD m i 0 ∙ other (ltb n i) refl (eqb-false i n h)

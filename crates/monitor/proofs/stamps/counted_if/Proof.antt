@@ -1,0 +1,27 @@
+-- `counted_if`: a product of two flags is at most one.
+use borrow.Author.Needs.{needs}
+use lib.Dec.{ltb}
+use Rattle.monitor.proofs.stamps.Laws.{counts, counted-fits, flags-fit}
+use Rattle.monitor.proofs.stamps.counted_if.Statement.{statement}
+use Rattle.monitor.proofs.stamps.counted_if.Tie as tie
+
+one-if-requires : tie.Need-one-if-requires
+one-if-requires c κs = search needs
+
+one-if-requires-2 : tie.Need-one-if-requires-2
+one-if-requires-2 c κs = search needs
+
+mul-result : tie.Need-mul-result
+mul-result c = record { fits = rw (c .before .one-if .ensures, c .one-if2 .ensures) (flags-fit (c .before .before .args .here) (ltb (c .before .before .args .counter) 4294967295)) }
+
+add-result : tie.Need-add-result
+add-result c =
+    record { fits = rw (c .before .one-if .ensures, c .one-if2 .ensures, counts (c .before .before .args .counter) (c .before .before .args .here) (c .before .before .fits .counter .fits)) (counted-fits (c .before .before .args .counter) (c .before .before .args .here) (c .before .before .fits .counter .fits)) }
+
+returns : tie.Need-returns
+returns c =
+    rw (c .before .one-if .ensures, c .one-if2 .ensures) (counts (c .before .before .args .counter) (c .before .before .args .here) (c .before .before .fits .counter .fits))
+
+pub counted-if-spec : {M : Type 1} → statement M
+counted-if-spec =
+    tie.close (tie.spec one-if-requires one-if-requires-2 mul-result add-result returns)

@@ -1,0 +1,173 @@
+-- The monitor's record, and what each call makes of it and answers.
+use mathlib.Core.Bool.{Bool, true, false, cond}
+use mathlib.Core.List.{List}
+use mathlib.Core.Option.{Option, none, some}
+use Prim.Native.Nat.{ℕ, _-_}
+use lib.Dec.{eqb}
+use lib.ListN.{getD, set, replicate}
+use Rattle.logpage.specs.Fields.{noSettings, emptyWindow, noDebugLog}
+use Rattle.logpage.specs.declared.Window.{Window}
+use Rattle.monitor.specs.declared.commands.Completion.{Completion}
+use Rattle.monitor.specs.declared.record.Monitor.{Monitor}
+use Rattle.monitor.specs.declared.timer.Tick.{Tick}
+use Rattle.monitor.specs.Answers.{Reply, refused, done, notCounted, counted, ended, unlessRefused}
+use Rattle.monitor.specs.Commands.{counterOf, latencyOf}
+use Rattle.monitor.specs.Refusals.{settingsRefusal, elapsedRefusal, clockRefusal}
+use Rattle.monitor.specs.Settings.{discard, inBytes}
+use Rattle.monitor.specs.Stamps.{bit, onceMore, loads, triggers, debugLog}
+use Rattle.monitor.specs.Timer.{grown, ticked, inWindow}
+
+-- no stamp was loaded in the active window
+abbrev pub noLoads : List ℕ
+noLoads = replicate 12 0
+
+-- A new monitor is disabled. All its settings are zero, its clock is 0 and not host-set, and both windows are empty
+-- with no debug record. Steps and partial step are 0.
+unfoldable pub newMonitor : Monitor
+newMonitor =
+    record {
+      settings = noSettings;
+      clock = 0;
+      host = false;
+      timer = 0;
+      partial = 0;
+      «active_window» = emptyWindow;
+      loaded = noLoads;
+      «static_window» = emptyWindow;
+      debug = noDebugLog;
+    }
+
+-- a refused call leaves the record untouched
+abbrev kept : Option ℕ → Monitor → Monitor → Monitor
+kept (some n) old next = old
+kept none old next = next
+
+-- Accepted settings replace the old ones. With discard 1 the debug record is removed, with 0 it is kept, whatever
+-- enable says. With enable 1 both windows become empty and steps and partial step become 0, also when nothing changed.
+-- With enable 0 windows and steps are kept and frozen.
+abbrev configured : Monitor → List ℕ → Monitor
+configured m s =
+    let on : Bool = inBytes s .enabled in
+    record {
+      settings = inBytes s;
+      clock = m .clock;
+      host = m .host;
+      timer = cond on 0 (m .timer);
+      partial = cond on 0 (m .partial);
+      «active_window» = cond on emptyWindow (m .«active_window»);
+      loaded = cond on noLoads (m .loaded);
+      «static_window» = cond on emptyWindow (m .«static_window»);
+      debug = cond (eqb (discard s) 1) noDebugLog (m .debug);
+    }
+
+unfoldable pub afterSettings : Monitor → List ℕ → Monitor
+afterSettings m s = kept (settingsRefusal s) m (configured m s)
+
+unfoldable pub settingsReply : List ℕ → Reply
+settingsReply s = unlessRefused (settingsRefusal s) done
+
+-- whether a completion of so many ms loads counter n's stamp; the sum of elapsed time since the last load is the time
+-- in the window now, less that at the load
+abbrev loadsAt : Monitor → ℕ → ℕ → Bool
+loadsAt m n ms =
+    loads (getD (m .«active_window» .stamps) n 0) (getD (m .«active_window» .latencies) n 0)
+    (inWindow (m .timer) (m .partial) - getD (m .loaded) n 0)
+    ms
+    (bit (m .settings .mode) n)
+    (m .settings .«minimum_window»)
+
+abbrev triggersAt : Monitor → ℕ → Bool
+triggersAt m n = triggers (bit (m .settings .trigger) n) (m .debug .stamp)
+
+-- The count grows. Loading sets the stamp to the clock, the shown latency to this latency in ms, and the mark to 1 if
+-- the clock is host-set, else 0.
+unfoldable pub countedIn : Bool → (n clock ms : ℕ) (host : Bool) → Window → Window
+countedIn load n clock ms host w =
+    record {
+      counters = set (w .counters) n (onceMore (getD (w .counters) n 0));
+      stamps = cond load (set (w .stamps) n clock) (w .stamps);
+      latencies = cond load (set (w .latencies) n ms) (w .latencies);
+      units = cond load (set (w .units) n host) (w .units);
+    }
+
+-- a completion that counts for counter n
+abbrev countedAt : Monitor → ℕ → ℕ → Monitor
+countedAt m n ms =
+    record {
+      settings = m .settings;
+      clock = m .clock;
+      host = m .host;
+      timer = m .timer;
+      partial = m .partial;
+      «active_window» = countedIn (loadsAt m n ms) n (m .clock) ms (m .host) (m .«active_window»);
+      loaded = cond (loadsAt m n ms) (set (m .loaded) n (inWindow (m .timer) (m .partial))) (m .loaded);
+      «static_window» = m .«static_window»;
+      debug = cond (triggersAt m n) (debugLog n (m .clock) ms (m .host)) (m .debug);
+    }
+
+abbrev onCounter : Option ℕ → Monitor → ℕ → Monitor
+onCounter (some n) m ms = countedAt m n ms
+onCounter none m ms = m
+
+unfoldable pub afterCompletion : Monitor → Completion → Monitor
+afterCompletion m c = onCounter (counterOf (m .settings) c) m (latencyOf c)
+
+abbrev counterReply : Option ℕ → Monitor → ℕ → Reply
+counterReply (some n) m ms = counted n (loadsAt m n ms) (triggersAt m n)
+counterReply none m ms = notCounted
+
+unfoldable pub completionReply : Monitor → Completion → Reply
+completionReply m c = counterReply (counterOf (m .settings) c) m (latencyOf c)
+
+-- the steps after elapsed time
+abbrev tickedBy : Monitor → ℕ → Tick
+tickedBy m ms =
+    ticked (m .settings .enabled) (m .settings .«timer_threshold») (m .timer) (m .partial) ms
+
+-- When the steps reach the timer threshold, the running window becomes the last finished one, a new empty one starts.
+abbrev passed : Monitor → ℕ → Monitor
+passed m ms =
+    let t : Tick = tickedBy m ms in
+    record {
+      settings = m .settings;
+      clock = grown (m .clock) ms;
+      host = m .host;
+      timer = t .timer;
+      partial = t .partial;
+      «active_window» = cond (t .expired) emptyWindow (m .«active_window»);
+      loaded = cond (t .expired) noLoads (m .loaded);
+      «static_window» = cond (t .expired) (m .«active_window») (m .«static_window»);
+      debug = m .debug;
+    }
+
+unfoldable pub afterElapsed : Monitor → ℕ → Monitor
+afterElapsed m ms = kept (elapsedRefusal ms) m (passed m ms)
+
+-- The answer says whether a window ended.
+unfoldable pub elapsedReply : Monitor → ℕ → Reply
+elapsedReply m ms = unlessRefused (elapsedRefusal ms) (ended (tickedBy m ms .expired))
+
+abbrev clockSet : Monitor → ℕ → Bool → Monitor
+clockSet m value host =
+    record {
+      settings = m .settings;
+      clock = value;
+      host = host;
+      timer = m .timer;
+      partial = m .partial;
+      «active_window» = m .«active_window»;
+      loaded = m .loaded;
+      «static_window» = m .«static_window»;
+      debug = m .debug;
+    }
+
+-- Setting the clock takes 64 bits, stores them and makes the clock host-set.
+unfoldable pub afterClock : Monitor → ℕ → Monitor
+afterClock m value = kept (clockRefusal value) m (clockSet m value true)
+
+unfoldable pub clockReply : ℕ → Reply
+clockReply value = unlessRefused (clockRefusal value) done
+
+-- Power-up sets the clock to 0 and not host-set, and keeps all else.
+unfoldable pub afterPowerUp : Monitor → Monitor
+afterPowerUp m = clockSet m 0 false

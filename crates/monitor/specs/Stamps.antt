@@ -1,0 +1,28 @@
+-- A counted completion: its counter, its counter's stamp, and the debug log.
+use mathlib.Core.Bool.{Bool, true, false, _&&_, _||_}
+use Prim.Native.Nat.{ℕ, _+_, _*_, _/_, _%_, _^_, min}
+use lib.Dec.{eqb, leb, ltb}
+use Rattle.logpage.specs.Fields.{unset}
+use Rattle.logpage.specs.declared.DebugLog.{DebugLog}
+
+-- bit n for pair n
+abbrev pub bit : ℕ → ℕ → Bool
+bit mask n = eqb (mask / 2 ^ n % 2) 1
+
+-- The pair's count grows by one and holds at 4,294,967,295.
+abbrev pub onceMore : ℕ → ℕ
+onceMore counter = min (counter + 1) 4294967295
+
+-- The stamp is loaded if it is unset; or if the pair's mode is largest, this latency in ms is strictly larger than the
+-- shown one, and the time since the pair's last load is at least 100 × the minimum window.
+unfoldable pub loads : (stamp latency since ms : ℕ) (largest : Bool) (minimum : ℕ) → Bool
+loads stamp latency since ms largest minimum =
+    eqb stamp unset || (largest && (ltb latency ms && leb (100 * minimum) since))
+
+-- A debug record is taken if the pair's trigger bit is 1 and no debug record is held.
+unfoldable pub triggers : (trigger : Bool) (held : ℕ) → Bool
+triggers trigger held = trigger && eqb held unset
+
+-- The debug record: ms, clock, clock mark and the pair as one set bit.
+abbrev pub debugLog : (n clock ms : ℕ) (host : Bool) → DebugLog
+debugLog n clock ms host = record { stamp = clock; latency = ms; source = 2 ^ n; units = host }

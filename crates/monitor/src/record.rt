@@ -1,0 +1,263 @@
+// The monitor's record, and the calls that take it and hand back the next one with their answer.
+ghost use mathlib.Core.Path.{_≡_};
+ghost use Rattle.monitor.specs.Answers.{done, saysAnswer, saysCompletion, saysElapsed};
+ghost use Rattle.monitor.specs.Record.{newMonitor, afterSettings, settingsReply, afterCompletion, completionReply};
+ghost use Rattle.monitor.specs.Record.{afterElapsed, elapsedReply, afterClock, clockReply, afterPowerUp};
+use crate::answers::Answer;
+use crate::answers::CompletionAnswer;
+use crate::answers::ElapsedAnswer;
+use crate::commands::Completion;
+use crate::commands::NOT_COUNTED;
+use crate::refusals;
+use crate::settings;
+use crate::stamps;
+use crate::stamps::Stamp;
+use crate::timer;
+use logpage::DebugLog;
+use logpage::Settings;
+use logpage::Window;
+
+// What the firmware keeps. The two windows stand last, and no padding stands before an array: calls that leave them
+// alone then do not copy them (docs/DECISIONS.md, 'The order of the record').
+#[repr(C)]
+pub struct Monitor {
+    pub settings: Settings,
+    // Active Bucket Timer: steps of five minutes in the active window (document 01: steps).
+    pub timer: u16,
+    // Whether the host set the clock (document 01: host-set).
+    pub host: bool,
+    // Time since the timer's last step, in ms (document 01: partial step).
+    pub partial: u32,
+    // In ms.
+    pub clock: u64,
+    // For each counter, the time in the active window at the last load of its stamp, in ms.
+    pub loaded: [u64; 12],
+    pub debug: DebugLog,
+    // Document 01: the last finished window.
+    pub static_window: Window,
+    // Document 01: the running window.
+    pub active_window: Window,
+}
+
+// The next record and the answer.
+pub struct Step {
+    pub monitor: Monitor,
+    pub answer: Answer,
+}
+
+pub struct CompletionStep {
+    pub monitor: Monitor,
+    pub answer: CompletionAnswer,
+}
+
+pub struct ElapsedStep {
+    pub monitor: Monitor,
+    pub answer: ElapsedAnswer,
+}
+
+impl Monitor {
+    // A new monitor.
+    pub fn new() -> Self
+        ensures { λ r. ⌜ r ≡ newMonitor ⌝ }
+    {
+        let s = Settings::none();
+        let w = Window::empty();
+        let d = DebugLog::none();
+        Monitor {
+            settings: s,
+            timer: 0,
+            host: false,
+            partial: 0,
+            clock: 0,
+            loaded: [0; 12],
+            debug: d,
+            static_window: w,
+            active_window: w,
+        }
+    }
+
+    // Settings, as 4,096 bytes.
+    pub fn configure(mut self, s: &[u8]) -> Step
+        ensures { λ r. ⌜ (r .monitor ≡ afterSettings self (now (s .entry))) × (saysAnswer (r .answer) ≡ settingsReply (now (s .entry))) ⌝ }
+    {
+        match settings::check(s) {
+            Answer::Refused(n) => Step {
+                monitor: self,
+                answer: Answer::Refused(n),
+            },
+            Answer::Done => {
+                let next = settings::in_bytes(s);
+                let held = self.debug;
+                let debug = settings::kept(held, s[11]);
+                self.settings = next;
+                if next.enabled {
+                    let w = Window::empty();
+                    self.timer = 0;
+                    self.partial = 0;
+                    self.loaded = [0; 12];
+                    self.debug = debug;
+                    self.static_window = w;
+                    self.active_window = w;
+                    Step {
+                        monitor: self,
+                        answer: Answer::Done,
+                    }
+                } else {
+                    self.debug = debug;
+                    Step {
+                        monitor: self,
+                        answer: Answer::Done,
+                    }
+                }
+            }
+        }
+    }
+
+    // A completed command.
+    pub fn completion(mut self, c: Completion) -> CompletionStep
+        ensures { λ r. ⌜ (r .monitor ≡ afterCompletion self c) × (saysCompletion (r .answer) ≡ completionReply self c) ⌝ }
+    {
+        let counter = c.counter(self.settings);
+        if counter < NOT_COUNTED {
+            let n = counter as usize;
+            let ms = c.milliseconds();
+            let now = timer::in_window(self.timer, self.partial);
+            let trigger = stamps::bit(self.settings.trigger, n);
+            let held = self.debug;
+            let debug = stamps::triggers(trigger, held.stamp);
+            let log = stamps::logged(debug, held, n, self.clock, ms, self.host);
+            self.debug = log;
+            let active = self.active_window.counters;
+            let counters = stamps::counted_at(active, counter);
+            let mut stamps = self.active_window.stamps;
+            let mut latencies = self.active_window.latencies;
+            let mut loaded = self.loaded;
+            let stamp = Stamp {
+                stamp: stamps[n],
+                latency: latencies[n],
+                loaded: loaded[n],
+            };
+            if stamps::loads(
+                stamp,
+                ms,
+                stamps::bit(self.settings.mode, n),
+                self.settings.minimum_window,
+                now,
+            ) {
+                let mut units = self.active_window.units;
+                stamps[n] = self.clock;
+                latencies[n] = ms;
+                units[n] = self.host;
+                loaded[n] = now;
+                let w = Window {
+                    counters: counters,
+                    stamps: stamps,
+                    latencies: latencies,
+                    units: units,
+                };
+                self.active_window = w;
+                self.loaded = loaded;
+                CompletionStep {
+                    monitor: self,
+                    answer: CompletionAnswer::Loaded {
+                        counter: counter,
+                        debug: debug,
+                    },
+                }
+            } else {
+                let stamps = self.active_window.stamps;
+                let latencies = self.active_window.latencies;
+                let units = self.active_window.units;
+                let w = Window {
+                    counters: counters,
+                    stamps: stamps,
+                    latencies: latencies,
+                    units: units,
+                };
+                self.active_window = w;
+                CompletionStep {
+                    monitor: self,
+                    answer: CompletionAnswer::Counted {
+                        counter: counter,
+                        debug: debug,
+                    },
+                }
+            }
+        } else {
+            CompletionStep {
+                monitor: self,
+                answer: CompletionAnswer::NotCounted,
+            }
+        }
+    }
+
+    // Elapsed time, in ms.
+    pub fn elapsed(mut self, ms: u32) -> ElapsedStep
+        ensures { λ r. ⌜ (r .monitor ≡ afterElapsed self ms) × (saysElapsed (r .answer) ≡ elapsedReply self ms) ⌝ }
+    {
+        if ms <= timer::STEP {
+            let t = timer::ticked(
+                self.settings.enabled,
+                self.settings.timer_threshold,
+                self.timer,
+                self.partial,
+                ms,
+            );
+            self.clock = timer::grown(self.clock, ms);
+            self.timer = t.timer;
+            self.partial = t.partial;
+            if t.expired {
+                let w = self.active_window;
+                let e = Window::empty();
+                self.loaded = [0; 12];
+                self.static_window = w;
+                self.active_window = e;
+                ElapsedStep {
+                    monitor: self,
+                    answer: ElapsedAnswer::Ended,
+                }
+            } else {
+                ElapsedStep {
+                    monitor: self,
+                    answer: ElapsedAnswer::Active,
+                }
+            }
+        } else {
+            ElapsedStep {
+                monitor: self,
+                answer: ElapsedAnswer::Refused(refusals::ELAPSED_TIME),
+            }
+        }
+    }
+
+    // The host sets the clock, in ms.
+    pub fn set_clock(mut self, value: u64) -> Step
+        ensures { λ r. ⌜ (r .monitor ≡ afterClock self value) × (saysAnswer (r .answer) ≡ clockReply value) ⌝ }
+    {
+        if value <= timer::CLOCK_TOP {
+            self.clock = value;
+            self.host = true;
+            Step {
+                monitor: self,
+                answer: Answer::Done,
+            }
+        } else {
+            Step {
+                monitor: self,
+                answer: Answer::Refused(refusals::CLOCK_VALUE),
+            }
+        }
+    }
+
+    // Power-up.
+    pub fn power_up(mut self) -> Step
+        ensures { λ r. ⌜ (r .monitor ≡ afterPowerUp self) × (saysAnswer (r .answer) ≡ done) ⌝ }
+    {
+        self.clock = 0;
+        self.host = false;
+        Step {
+            monitor: self,
+            answer: Answer::Done,
+        }
+    }
+}

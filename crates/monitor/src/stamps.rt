@@ -1,0 +1,125 @@
+// A counted completion: its counter, its counter's latency stamp, and the debug log.
+ghost use mathlib.Core.Path.{_≡_};
+ghost use mathlib.Core.Bool.{cond};
+ghost use Prim.Native.Nat.{_-_, _^_, _<_};
+ghost use lib.ListN.{getD, set};
+ghost use Rattle.monitor.specs.Stamps.{bit, onceMore, loads, triggers, debugLog};
+use logpage::DebugLog;
+use logpage::UNSET;
+
+pub const COUNTER_TOP: u32 = 4_294_967_295;
+
+// Whether counter n's bit is set.
+pub(crate) fn bit(mask: u16, n: usize) -> bool
+    requires { ⌜ n < 12 ⌝ }
+    ensures { λ r. ⌜ r ≡ bit mask n ⌝ }
+{
+    (mask >> n) % 2 == 1
+}
+
+// The mask that has counter n's bit alone.
+fn one_bit(n: usize) -> u16
+    requires { ⌜ n < 12 ⌝ }
+    ensures { λ r. ⌜ r ≡ 2 ^ n ⌝ }
+{
+    1 << n
+}
+
+fn one_if(b: bool) -> u32
+    ensures { λ r. ⌜ r ≡ cond b 1 0 ⌝ }
+{
+    if b { 1 } else { 0 }
+}
+
+// A counter, after one more completion if it is for this counter; held at its top.
+fn counted_if(counter: u32, here: bool) -> u32
+    ensures { λ r. ⌜ r ≡ cond here (onceMore counter) counter ⌝ }
+{
+    counter + one_if(here) * one_if(counter < COUNTER_TOP)
+}
+
+// The counters after one more completion for counter n. All are written, and none by a branch, so that they stay in
+// vector registers: a store at n alone would send them through memory.
+pub(crate) fn counted_at(mut counters: [u32; 12], n: u16) -> [u32; 12]
+    requires { ⌜ n < 12 ⌝ }
+    ensures { λ r. ⌜ r ≡ set counters n (onceMore (getD counters n 0)) ⌝ }
+{
+    let mut i: u16 = 0;
+    while i < 12 {
+        let at = i as usize;
+        counters[at] = counted_if(counters[at], i == n);
+        i += 1;
+    }
+    counters
+}
+
+// The time from a load until now; 0 where the load comes later, which no history makes.
+fn since(loaded: u64, now: u64) -> u64
+    ensures { λ r. ⌜ r ≡ now - loaded ⌝ }
+{
+    if loaded <= now { now - loaded } else { 0 }
+}
+
+// A counter's stamp, as the rule for loading it sees it.
+pub struct Stamp {
+    pub stamp: u64,
+    // The measured latency, in ms.
+    pub latency: u16,
+    // Time in the active window at the last load, in ms.
+    pub loaded: u64,
+}
+
+// Whether a completion of so many ms loads a stamp: it is unset; or in mode largest the latency is larger and the
+// minimum window is over.
+pub(crate) fn loads(s: Stamp, ms: u16, largest: bool, minimum: u8, now: u64) -> bool
+    ensures { λ r. ⌜ r ≡ loads (s .stamp) (s .latency) (now - s .loaded) ms largest minimum ⌝ }
+{
+    if s.stamp == UNSET {
+        true
+    } else if largest {
+        if s.latency < ms {
+            100 * (minimum as u64) <= since(s.loaded, now)
+        } else {
+            false
+        }
+    } else {
+        false
+    }
+}
+
+// Whether a completion takes a debug log: its trigger bit is set, and none is held.
+pub(crate) fn triggers(trigger: bool, held: u64) -> bool
+    ensures { λ r. ⌜ r ≡ triggers trigger held ⌝ }
+{
+    if trigger { held == UNSET } else { false }
+}
+
+// The debug log after a completion for counter n: its own if it takes one, else the one that was held.
+pub(crate) fn logged(
+    takes: bool,
+    held: DebugLog,
+    n: usize,
+    clock: u64,
+    ms: u16,
+    host: bool,
+) -> DebugLog
+    requires { ⌜ n < 12 ⌝ }
+    ensures { λ r. ⌜ r ≡ cond takes (debugLog n clock ms host) held ⌝ }
+{
+    if takes {
+        DebugLog {
+            stamp: clock,
+            latency: ms,
+            source: one_bit(n),
+            units: host,
+        }
+    } else {
+        // Field by field: a copy of the struct would send the record through memory.
+        DebugLog {
+            stamp: held.stamp,
+            latency: held.latency,
+            source: held.source,
+            units: held.units,
+        }
+    }
+}
