@@ -7,7 +7,7 @@ use Prim.Native.Nat.{ℕ, zero, suc, _+_, _*_, _-_, _/_, _≤_, _<_}
 use native.Mathlib.Nat.{not-suc-le-zero, le-div-iff-mul-le, div-lt-iff-lt-mul}
 use native.Mathlib.Numerals.{sub-one}
 use native.Mathlib.Omega.{arith}
-use borrow.Author.Tests.{le-leb, lt-leb, lt-ltb, ltb-true, ltb-false}
+use borrow.Author.Tests.{le-leb, lt-leb, lt-ltb, le-ltb, ltb-true, ltb-false}
 use lib.Dec.{eqb, ltb}
 use lib.ListN.{getD}
 use Rattle.logpage.specs.declared.Settings.{Settings}
@@ -45,6 +45,9 @@ nothing thresholds us = refl
 -- a number below twelve names a counter
 pub named : (n : ℕ) → n < 12 → saysCounter n ≡ some n
 named n h = rw (lt-ltb n 12 h)
+
+pub unnamed : (n : ℕ) → 12 ≤ n → saysCounter n ≡ none
+unnamed n h = rw (le-ltb n 12 h)
 
 -- a number that is found is below a limit
 data Below (n : ℕ) : Option ℕ → Type 0 where

@@ -1,23 +1,28 @@
 -- What the calls' branches come to, as laws over plain values.
-use mathlib.Core.Path.{_≡_, refl}
+use mathlib.Core.Path.{_≡_, sym, _∙_}
 use mathlib.Core.Bool.{Bool, true, false, cond}
 use mathlib.Core.List.{List}
 use mathlib.Core.Option.{Option, some, none}
-use Prim.Native.Nat.{ℕ, _≤_, _<_}
+use Prim.Native.Nat.{ℕ, _-_, _≤_, _<_}
 use lib.Dec.{eqb}
+use lib.ListN.{getD, set}
 use borrow.Author.Tests.{lt-ltb, le-ltb}
 use Rattle.logpage.specs.Fields.{emptyWindow, noDebugLog}
 use Rattle.logpage.specs.declared.DebugLog.{DebugLog}
 use Rattle.logpage.specs.declared.Settings.{Settings}
 use Rattle.logpage.specs.declared.Window.{Window}
+use Rattle.monitor.specs.declared.commands.Completion.{Completion}
 use Rattle.monitor.specs.declared.record.Monitor.{Monitor}
 use Rattle.monitor.specs.declared.timer.Tick.{Tick}
-use Rattle.monitor.specs.Answers.{done, refused, ended, unlessRefused}
+use Rattle.monitor.specs.Answers.{done, refused, notCounted, counted, ended, unlessRefused}
 use Rattle.monitor.specs.Refusals.{settingsRefusal, elapsedRefusal}
 use Rattle.monitor.specs.Settings.{discard, inBytes}
-use Rattle.monitor.specs.Timer.{grown, ticked}
+use Rattle.monitor.specs.Stamps.{bit, onceMore, loads, triggers, debugLog}
+use Rattle.monitor.specs.Commands.{saysCounter, counterOf, latencyOf}
+use Rattle.monitor.specs.Timer.{grown, ticked, inWindow}
 use Rattle.monitor.proofs.settings.Laws.{refused-by}
-use Rattle.monitor.specs.Record.{noLoads, afterSettings, settingsReply, afterElapsed, elapsedReply}
+use Rattle.monitor.proofs.commands.Laws.{named, unnamed}
+use Rattle.monitor.specs.Record.{noLoads, afterSettings, settingsReply, countedIn, afterCompletion, completionReply, afterElapsed, elapsedReply}
 
 -- settings that are turned away
 pub settings-refused :
@@ -70,6 +75,82 @@ module _ (m : Monitor) (s : List ℕ) (accepted : settingsRefusal s ≡ none) (n
       (done ≡ settingsReply s)
   unfolding afterSettings settingsReply
   configured-off e = (rw (accepted, ← read, e, keeps), rw accepted)
+
+-- a completion, with the number of its counter
+module _ (m : Monitor) (c : Completion) (n : ℕ) (says : saysCounter n ≡ counterOf (m .settings) c) where
+  pub not-counted : 12 ≤ n → (m ≡ afterCompletion m c) × (notCounted ≡ completionReply m c)
+  unfolding afterCompletion completionReply
+  not-counted h = let none-at = sym says ∙ unnamed n h in (rw none-at, rw none-at)
+
+  module _ (few : n < 12) (ms now : ℕ) (trigger debug largest load : Bool) (log : DebugLog) (counters : List ℕ)
+      (measured : ms ≡ latencyOf c)
+      (timed : now ≡ inWindow (m .timer) (m .partial))
+      (asked : trigger ≡ bit (m .settings .trigger) n)
+      (takes : debug ≡ triggers trigger (m .debug .stamp))
+      (logs : log ≡ cond debug (debugLog n (m .clock) ms (m .host)) (m .debug))
+      (counts : counters ≡ set (m .«active_window» .counters) n (onceMore (getD (m .«active_window» .counters) n 0)))
+      (mode : largest ≡ bit (m .settings .mode) n)
+      (loading :
+      load ≡
+      loads (getD (m .«active_window» .stamps) n 0) (getD (m .«active_window» .latencies) n 0) (now - getD (m .loaded) n 0) ms
+      largest
+      (m .settings .«minimum_window»)) where
+    chosen : counterOf (m .settings) c ≡ some n
+    chosen = sym says ∙ named n few
+
+    reply : counted n load debug ≡ completionReply m c
+    unfolding completionReply
+    reply = rw (chosen, ← measured, ← timed, ← mode, ← loading, ← asked, ← takes)
+
+    pub counted-loaded :
+        load ≡ true →
+        (_≡_ {A = Monitor}
+        (record {
+          settings = m .settings;
+          timer = m .timer;
+          host = m .host;
+          partial = m .partial;
+          clock = m .clock;
+          loaded = set (m .loaded) n now;
+          debug = log;
+          «static_window» = m .«static_window»;
+          «active_window» = record {
+            counters = counters;
+            stamps = set (m .«active_window» .stamps) n (m .clock);
+            latencies = set (m .«active_window» .latencies) n ms;
+            units = set (m .«active_window» .units) n (m .host);
+          };
+        })
+        (afterCompletion m c)) ×
+        (counted n true debug ≡ completionReply m c)
+    unfolding afterCompletion countedIn
+    counted-loaded e =
+        (rw (chosen, ← measured, ← timed, ← mode, ← loading, e, ← asked, ← takes, ← logs, ← counts), rw e at reply)
+
+    pub counted-kept :
+        load ≡ false →
+        (_≡_ {A = Monitor}
+        (record {
+          settings = m .settings;
+          timer = m .timer;
+          host = m .host;
+          partial = m .partial;
+          clock = m .clock;
+          loaded = m .loaded;
+          debug = log;
+          «static_window» = m .«static_window»;
+          «active_window» = record {
+            counters = counters;
+            stamps = m .«active_window» .stamps;
+            latencies = m .«active_window» .latencies;
+            units = m .«active_window» .units;
+          };
+        })
+        (afterCompletion m c)) ×
+        (counted n false debug ≡ completionReply m c)
+    unfolding afterCompletion countedIn
+    counted-kept e =
+        (rw (chosen, ← measured, ← timed, ← mode, ← loading, e, ← asked, ← takes, ← logs, ← counts), rw e at reply)
 
 -- elapsed time that is accepted
 module _ (m : Monitor) (ms : ℕ) (fits : ms ≤ 300000) (t : Tick) (clock : ℕ)

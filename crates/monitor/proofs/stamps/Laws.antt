@@ -61,6 +61,7 @@ module _ (f : ℕ → ℕ) (l : List ℕ) (n : ℕ) where
           e ∙ (rw (h, lt-ltb n (i + 1) (omega (arith, ltb-true n i h))))
       other false h no-match =
           e ∙ (rw (h, le-ltb n (i + 1) (omega (arith, ltb-false n i h))))
+
       by : (t : Bool) → eqb i n ≡ t → set m i (cond t (f (getD m i 0)) (getD m i 0)) ≡ written (i + 1)
       by true h =
           let at : i ≡ n = eqb-true i n h in

@@ -42,10 +42,11 @@ loop-less : tie.Need-loop-less Inv-loop μ-loop
 loop-less c = search needs
 
 loop-again : tie.Need-loop-again Inv-loop μ-loop
-loop-again c =
-    (search needs,
-    rw (c .counted-if .ensures)
-    (write-more onceMore (c .before .before .before .args .t1) (c .before .before .before .args .n) _ _ (c .before .before .loop .inv .1)))
+loop-again c = (
+  search needs,
+  rw (c .counted-if .ensures)
+      (write-more onceMore (c .before .before .before .args .t1) (c .before .before .before .args .n) _ _ (c .before .before .loop .inv .1)),
+)
 
 returns : tie.Need-returns Inv-loop μ-loop
 returns c =

@@ -34,9 +34,10 @@ loop-less : tie.Need-loop-less Inv-loop μ-loop
 loop-less c = search needs
 
 loop-again : tie.Need-loop-again Inv-loop μ-loop
-loop-again c =
-    (search needs,
-    λ us e. sym (miss _ us _ e (c .before .before .before .loop .b) (search needs) (sym (c .before .reaches .ensures) ∙ c .if2 .left)) ∙ c .before .before .before .loop .inv .1 us e)
+loop-again c = (
+  search needs,
+  λ us e. sym (miss _ us _ e (c .before .before .before .loop .b) (search needs) (sym (c .before .reaches .ensures) ∙ c .if2 .left)) ∙ c .before .before .before .loop .inv .1 us e,
+)
 
 returns : tie.Need-returns Inv-loop μ-loop
 unfolding bucketOf

@@ -1,16 +1,8 @@
+-- `Monitor::completion`: counted with the stamp loaded; counted with it kept; not counted.
+use Rattle.monitor.proofs.record.Laws.{not-counted, counted-loaded, counted-kept}
 use borrow.Author.Needs.{needs}
 use Rattle.monitor.proofs.record.Monitor.completion.Statement.{statement}
 use Rattle.monitor.proofs.record.Monitor.completion.Tie as tie
-use Rattle.monitor.proofs.record.Monitor.completion.Reads as reads
-use Rattle.monitor.proofs.record.Monitor.completion.Lts as lts
-use Rattle.monitor.proofs.commands.Completion.counter.Reads as counter-reads
-use Rattle.monitor.proofs.commands.Completion.milliseconds.Reads as milliseconds-reads
-use Rattle.monitor.proofs.stamps.bit.Reads as bit-reads
-use Rattle.monitor.proofs.stamps.counted_at.Reads as counted-at-reads
-use Rattle.monitor.proofs.stamps.loads.Reads as loads-reads
-use Rattle.monitor.proofs.stamps.logged.Reads as logged-reads
-use Rattle.monitor.proofs.stamps.triggers.Reads as triggers-reads
-use Rattle.monitor.proofs.timer.in_window.Reads as in-window-reads
 
 counter-requires : tie.Need-counter-requires
 counter-requires c κs = search needs
@@ -82,13 +74,33 @@ array-write-loaded : tie.Need-array-write-loaded
 array-write-loaded c = search needs
 
 returns : tie.Need-returns
-returns c = ?
+returns c =
+    counted-loaded _ _ _ (c .before .before .before .before .before .before .before .before .before .before .before .before .before .before .before .before .counter .ensures) (c .before .before .before .before .before .before .before .before .before .before .before .before .before .before .before .if1 .taken) _ _ _ _ _ _ _ _
+    (c .before .before .before .before .before .before .before .before .before .before .before .before .before .before .milliseconds .ensures)
+    (c .before .before .before .before .before .before .before .before .before .before .before .before .before .in-window .ensures)
+    (c .before .before .before .before .before .before .before .before .before .before .before .before .bit .ensures)
+    (c .before .before .before .before .before .before .before .before .before .before .triggers .ensures)
+    (c .before .before .before .before .before .before .before .before .before .logged .ensures)
+    (c .before .before .before .before .before .before .before .counted-at .ensures)
+    (c .before .before .before .bit2 .ensures)
+    (c .before .before .loads .ensures)
+    (c .before .if2 .taken)
 
 returns-2 : tie.Need-returns-2
-returns-2 c = ?
+returns-2 c =
+    counted-kept _ _ _ (c .before .before .before .before .before .before .before .before .before .before .before .before .before .before .before .before .before .before .counter .ensures) (c .before .before .before .before .before .before .before .before .before .before .before .before .before .before .before .before .before .if1 .taken) _ _ _ _ _ _ _ _
+    (c .before .before .before .before .before .before .before .before .before .before .before .before .before .before .before .before .milliseconds .ensures)
+    (c .before .before .before .before .before .before .before .before .before .before .before .before .before .before .before .in-window .ensures)
+    (c .before .before .before .before .before .before .before .before .before .before .before .before .before .before .bit .ensures)
+    (c .before .before .before .before .before .before .before .before .before .before .before .before .triggers .ensures)
+    (c .before .before .before .before .before .before .before .before .before .before .before .logged .ensures)
+    (c .before .before .before .before .before .before .before .before .before .counted-at .ensures)
+    (c .before .before .before .before .before .bit2 .ensures)
+    (c .before .before .before .before .loads .ensures)
+    (c .before .before .before .if2 .left)
 
 returns-3 : tie.Need-returns-3
-returns-3 c = ?
+returns-3 c = not-counted _ _ _ (c .before .counter .ensures) (c .if1 .left)
 
 pub completion-spec : {M : Type 1} → statement M
 completion-spec =
