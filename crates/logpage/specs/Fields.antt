@@ -1,5 +1,6 @@
 -- The plain fields of log page C3h.
-use mathlib.Core.Bool.{false}
+use mathlib.Core.Bool.{Bool, false}
+use mathlib.Core.List.{List}
 use Prim.Native.Nat.{ℕ}
 use lib.ListN.{replicate}
 use Rattle.logpage.specs.declared.Settings.{Settings}
@@ -21,6 +22,10 @@ noSettings =
       «minimum_window» = 0;
       enabled = false;
     }
+
+abbrev pub windowOf : List ℕ → List ℕ → List ℕ → List Bool → Window
+windowOf counters stamps latencies units =
+    record { counters = counters; stamps = stamps; latencies = latencies; units = units }
 
 -- An empty window has count 0, stamp unset, shown latency 0 and mark 0.
 unfoldable pub emptyWindow : Window

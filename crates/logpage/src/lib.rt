@@ -1,6 +1,6 @@
 // The plain fields of log page C3h (source document 001, 4.8.9). Names of 001 are given where they differ.
 ghost use mathlib.Core.Path.{_≡_};
-ghost use Rattle.logpage.specs.Fields.{noSettings, emptyWindow, noDebugLog};
+ghost use Rattle.logpage.specs.Fields.{noSettings, windowOf, emptyWindow, noDebugLog};
 
 // A latency stamp that is not set.
 pub const UNSET: u64 = 0xffff_ffff_ffff_ffff;
@@ -49,6 +49,23 @@ pub struct Window {
 }
 
 impl Window {
+    // The window of these arrays.
+    pub fn of(
+        counters: [u32; 12],
+        stamps: [u64; 12],
+        latencies: [u16; 12],
+        units: [bool; 12],
+    ) -> Self
+        ensures { λ r. ⌜ r ≡ windowOf counters stamps latencies units ⌝ }
+    {
+        Window {
+            counters,
+            stamps,
+            latencies,
+            units,
+        }
+    }
+
     // A window in which nothing was counted.
     pub fn empty() -> Self
         ensures { λ r. ⌜ r ≡ emptyWindow ⌝ }

@@ -11,7 +11,6 @@ use crate::commands::NOT_COUNTED;
 use crate::refusals;
 use crate::settings;
 use crate::stamps;
-use crate::stamps::Stamp;
 use crate::timer;
 use logpage::DebugLog;
 use logpage::Settings;
@@ -41,17 +40,17 @@ pub struct Monitor {
 
 // The next record and the answer.
 pub struct Step {
-    pub monitor: Monitor,
+    pub next: Monitor,
     pub answer: Answer,
 }
 
 pub struct CompletionStep {
-    pub monitor: Monitor,
+    pub next: Monitor,
     pub answer: CompletionAnswer,
 }
 
 pub struct ElapsedStep {
-    pub monitor: Monitor,
+    pub next: Monitor,
     pub answer: ElapsedAnswer,
 }
 
@@ -78,11 +77,12 @@ impl Monitor {
 
     // Settings, as 4,096 bytes.
     pub fn configure(mut self, s: &[u8]) -> Step
-        ensures { λ r. ⌜ (r .monitor ≡ afterSettings self (now (s .entry))) × (saysAnswer (r .answer) ≡ settingsReply (now (s .entry))) ⌝ }
+        ensures next { λ r. ⌜ r .next ≡ afterSettings self (now (s .entry)) ⌝ }
+        ensures answer { λ r. ⌜ saysAnswer (r .answer) ≡ settingsReply (now (s .entry)) ⌝ }
     {
         match settings::check(s) {
             Answer::Refused(n) => Step {
-                monitor: self,
+                next: self,
                 answer: Answer::Refused(n),
             },
             Answer::Done => {
@@ -99,13 +99,13 @@ impl Monitor {
                     self.static_window = w;
                     self.active_window = w;
                     Step {
-                        monitor: self,
+                        next: self,
                         answer: Answer::Done,
                     }
                 } else {
                     self.debug = debug;
                     Step {
-                        monitor: self,
+                        next: self,
                         answer: Answer::Done,
                     }
                 }
@@ -115,85 +115,51 @@ impl Monitor {
 
     // A completed command.
     pub fn completion(mut self, c: Completion) -> CompletionStep
-        ensures { λ r. ⌜ (r .monitor ≡ afterCompletion self c) × (saysCompletion (r .answer) ≡ completionReply self c) ⌝ }
+        ensures next { λ r. ⌜ r .next ≡ afterCompletion self c ⌝ }
+        ensures answer { λ r. ⌜ saysCompletion (r .answer) ≡ completionReply self c ⌝ }
     {
         let counter = c.counter(self.settings);
         if counter < NOT_COUNTED {
             let n = counter as usize;
             let ms = c.milliseconds();
             let now = timer::in_window(self.timer, self.partial);
-            let trigger = stamps::bit(self.settings.trigger, n);
-            let held = self.debug;
-            let debug = stamps::triggers(trigger, held.stamp);
-            let log = stamps::logged(debug, held, n, self.clock, ms, self.host);
-            self.debug = log;
+            let debug = stamps::triggers(stamps::bit(self.settings.trigger, n), self.debug.stamp);
+            self.debug = stamps::logged(debug, self.debug, n, self.clock, ms, self.host);
             let active = self.active_window.counters;
             let counters = stamps::counted_at(active, counter);
             let mut stamps = self.active_window.stamps;
             let mut latencies = self.active_window.latencies;
             let mut loaded = self.loaded;
-            let stamp = Stamp {
-                stamp: stamps[n],
-                latency: latencies[n],
-                loaded: loaded[n],
-            };
-            if stamps::loads(
-                stamp,
-                ms,
-                stamps::bit(self.settings.mode, n),
-                self.settings.minimum_window,
-                now,
-            ) {
+            let largest = stamps::bit(self.settings.mode, n);
+            let wait = self.settings.minimum_window;
+            if stamps::loads(stamps[n], latencies[n], loaded[n], ms, largest, wait, now) {
                 let mut units = self.active_window.units;
                 stamps[n] = self.clock;
                 latencies[n] = ms;
                 units[n] = self.host;
                 loaded[n] = now;
-                let w = Window {
-                    counters: counters,
-                    stamps: stamps,
-                    latencies: latencies,
-                    units: units,
-                };
-                self.active_window = w;
+                self.active_window = Window::of(counters, stamps, latencies, units);
                 self.loaded = loaded;
-                CompletionStep {
-                    monitor: self,
-                    answer: CompletionAnswer::Loaded {
-                        counter: counter,
-                        debug: debug,
-                    },
-                }
+                let answer = CompletionAnswer::Loaded { counter, debug };
+                CompletionStep { next: self, answer }
             } else {
                 let stamps = self.active_window.stamps;
                 let latencies = self.active_window.latencies;
                 let units = self.active_window.units;
-                let w = Window {
-                    counters: counters,
-                    stamps: stamps,
-                    latencies: latencies,
-                    units: units,
-                };
-                self.active_window = w;
-                CompletionStep {
-                    monitor: self,
-                    answer: CompletionAnswer::Counted {
-                        counter: counter,
-                        debug: debug,
-                    },
-                }
+                self.active_window = Window::of(counters, stamps, latencies, units);
+                let answer = CompletionAnswer::Counted { counter, debug };
+                CompletionStep { next: self, answer }
             }
         } else {
-            CompletionStep {
-                monitor: self,
-                answer: CompletionAnswer::NotCounted,
-            }
+            let answer = CompletionAnswer::NotCounted;
+            CompletionStep { next: self, answer }
         }
     }
 
     // Elapsed time, in ms.
     pub fn elapsed(mut self, ms: u32) -> ElapsedStep
-        ensures { λ r. ⌜ (r .monitor ≡ afterElapsed self ms) × (saysElapsed (r .answer) ≡ elapsedReply self ms) ⌝ }
+        ensures next { λ r. ⌜ r .next ≡ afterElapsed self ms ⌝ }
+        ensures answer { λ r. ⌜ saysElapsed (r .answer) ≡ elapsedReply self ms ⌝ }
     {
         if ms <= timer::STEP {
             let t = timer::ticked(
@@ -213,18 +179,18 @@ impl Monitor {
                 self.static_window = w;
                 self.active_window = e;
                 ElapsedStep {
-                    monitor: self,
+                    next: self,
                     answer: ElapsedAnswer::Ended,
                 }
             } else {
                 ElapsedStep {
-                    monitor: self,
+                    next: self,
                     answer: ElapsedAnswer::Active,
                 }
             }
         } else {
             ElapsedStep {
-                monitor: self,
+                next: self,
                 answer: ElapsedAnswer::Refused(refusals::ELAPSED_TIME),
             }
         }
@@ -232,18 +198,19 @@ impl Monitor {
 
     // The host sets the clock, in ms.
     pub fn set_clock(mut self, value: u64) -> Step
-        ensures { λ r. ⌜ (r .monitor ≡ afterClock self value) × (saysAnswer (r .answer) ≡ clockReply value) ⌝ }
+        ensures next { λ r. ⌜ r .next ≡ afterClock self value ⌝ }
+        ensures answer { λ r. ⌜ saysAnswer (r .answer) ≡ clockReply value ⌝ }
     {
         if value <= timer::CLOCK_TOP {
             self.clock = value;
             self.host = true;
             Step {
-                monitor: self,
+                next: self,
                 answer: Answer::Done,
             }
         } else {
             Step {
-                monitor: self,
+                next: self,
                 answer: Answer::Refused(refusals::CLOCK_VALUE),
             }
         }
@@ -251,12 +218,13 @@ impl Monitor {
 
     // Power-up.
     pub fn power_up(mut self) -> Step
-        ensures { λ r. ⌜ (r .monitor ≡ afterPowerUp self) × (saysAnswer (r .answer) ≡ done) ⌝ }
+        ensures next { λ r. ⌜ r .next ≡ afterPowerUp self ⌝ }
+        ensures answer { λ r. ⌜ saysAnswer (r .answer) ≡ done ⌝ }
     {
         self.clock = 0;
         self.host = false;
         Step {
-            monitor: self,
+            next: self,
             answer: Answer::Done,
         }
     }

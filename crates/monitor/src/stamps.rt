@@ -60,25 +60,24 @@ fn since(loaded: u64, now: u64) -> u64
     if loaded <= now { now - loaded } else { 0 }
 }
 
-// A counter's stamp, as the rule for loading it sees it.
-pub struct Stamp {
-    pub stamp: u64,
-    // The measured latency, in ms.
-    pub latency: u16,
-    // Time in the active window at the last load, in ms.
-    pub loaded: u64,
-}
-
-// Whether a completion of so many ms loads a stamp: it is unset; or in mode largest the latency is larger and the
-// minimum window is over.
-pub(crate) fn loads(s: Stamp, ms: u16, largest: bool, minimum: u8, now: u64) -> bool
-    ensures { λ r. ⌜ r ≡ loads (s .stamp) (s .latency) (now - s .loaded) ms largest minimum ⌝ }
+// Whether a completion of `ms` loads a stamp: it is unset; or in mode largest the latency is larger than the one
+// measured, and the minimum window since the last load, both as time in the active window, is over.
+pub(crate) fn loads(
+    stamp: u64,
+    latency: u16,
+    loaded: u64,
+    ms: u16,
+    largest: bool,
+    minimum: u8,
+    now: u64,
+) -> bool
+    ensures { λ r. ⌜ r ≡ loads stamp latency (now - loaded) ms largest minimum ⌝ }
 {
-    if s.stamp == UNSET {
+    if stamp == UNSET {
         true
     } else if largest {
-        if s.latency < ms {
-            100 * (minimum as u64) <= since(s.loaded, now)
+        if latency < ms {
+            100 * (minimum as u64) <= since(loaded, now)
         } else {
             false
         }

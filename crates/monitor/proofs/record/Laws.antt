@@ -7,7 +7,7 @@ use Prim.Native.Nat.{ℕ, _-_, _≤_, _<_}
 use lib.Dec.{eqb}
 use lib.ListN.{getD, set}
 use borrow.Author.Tests.{lt-ltb, le-ltb}
-use Rattle.logpage.specs.Fields.{emptyWindow, noDebugLog}
+use Rattle.logpage.specs.Fields.{windowOf, emptyWindow, noDebugLog}
 use Rattle.logpage.specs.declared.DebugLog.{DebugLog}
 use Rattle.logpage.specs.declared.Settings.{Settings}
 use Rattle.logpage.specs.declared.Window.{Window}
@@ -102,55 +102,40 @@ module _ (m : Monitor) (c : Completion) (n : ℕ) (says : saysCounter n ≡ coun
     unfolding completionReply
     reply = rw (chosen, ← measured, ← timed, ← mode, ← loading, ← asked, ← takes)
 
-    pub counted-loaded :
-        load ≡ true →
-        (_≡_ {A = Monitor}
-        (record {
+    -- the record with what the completion writes
+    abbrev next : List ℕ → Window → Monitor
+    next loaded w =
+        record {
           settings = m .settings;
           timer = m .timer;
           host = m .host;
           partial = m .partial;
           clock = m .clock;
-          loaded = set (m .loaded) n now;
+          loaded = loaded;
           debug = log;
           «static_window» = m .«static_window»;
-          «active_window» = record {
-            counters = counters;
-            stamps = set (m .«active_window» .stamps) n (m .clock);
-            latencies = set (m .«active_window» .latencies) n ms;
-            units = set (m .«active_window» .units) n (m .host);
-          };
-        })
-        (afterCompletion m c)) ×
-        (counted n true debug ≡ completionReply m c)
+          «active_window» = w;
+        }
+
+    pub counted-loaded :
+        load ≡ true →
+        (w : Window) →
+        w ≡
+        windowOf counters (set (m .«active_window» .stamps) n (m .clock)) (set (m .«active_window» .latencies) n ms)
+        (set (m .«active_window» .units) n (m .host)) →
+        (next (set (m .loaded) n now) w ≡ afterCompletion m c) × (counted n true debug ≡ completionReply m c)
     unfolding afterCompletion countedIn
-    counted-loaded e =
-        (rw (chosen, ← measured, ← timed, ← mode, ← loading, e, ← asked, ← takes, ← logs, ← counts), rw e at reply)
+    counted-loaded e w we =
+        (rw (we, chosen, ← measured, ← timed, ← mode, ← loading, e, ← asked, ← takes, ← logs, ← counts), rw e at reply)
 
     pub counted-kept :
         load ≡ false →
-        (_≡_ {A = Monitor}
-        (record {
-          settings = m .settings;
-          timer = m .timer;
-          host = m .host;
-          partial = m .partial;
-          clock = m .clock;
-          loaded = m .loaded;
-          debug = log;
-          «static_window» = m .«static_window»;
-          «active_window» = record {
-            counters = counters;
-            stamps = m .«active_window» .stamps;
-            latencies = m .«active_window» .latencies;
-            units = m .«active_window» .units;
-          };
-        })
-        (afterCompletion m c)) ×
-        (counted n false debug ≡ completionReply m c)
+        (w : Window) →
+        w ≡ windowOf counters (m .«active_window» .stamps) (m .«active_window» .latencies) (m .«active_window» .units) →
+        (next (m .loaded) w ≡ afterCompletion m c) × (counted n false debug ≡ completionReply m c)
     unfolding afterCompletion countedIn
-    counted-kept e =
-        (rw (chosen, ← measured, ← timed, ← mode, ← loading, e, ← asked, ← takes, ← logs, ← counts), rw e at reply)
+    counted-kept e w we =
+        (rw (we, chosen, ← measured, ← timed, ← mode, ← loading, e, ← asked, ← takes, ← logs, ← counts), rw e at reply)
 
 -- elapsed time that is accepted
 module _ (m : Monitor) (ms : ℕ) (fits : ms ≤ 300000) (t : Tick) (clock : ℕ)

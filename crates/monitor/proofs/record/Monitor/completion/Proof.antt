@@ -28,26 +28,26 @@ logged-requires c κs = search needs
 counted-at-requires : tie.Need-counted-at-requires
 counted-at-requires c κs = search needs
 
-mul-t25 : tie.Need-mul-t25
-mul-t25 c = search needs
-
-array-read-t28 : tie.Need-array-read-t28
-array-read-t28 c = search needs
-
-mul-t29 : tie.Need-mul-t29
-mul-t29 c = search needs
-
-array-read-t32 : tie.Need-array-read-t32
-array-read-t32 c = search needs
-
-mul-t33 : tie.Need-mul-t33
-mul-t33 c = search needs
-
-array-read-t36 : tie.Need-array-read-t36
-array-read-t36 c = search needs
-
 bit-requires-2 : tie.Need-bit-requires-2
 bit-requires-2 c κs = search needs
+
+mul-loads : tie.Need-mul-loads
+mul-loads c = search needs
+
+array-read-loads : tie.Need-array-read-loads
+array-read-loads c = search needs
+
+mul-loads-2 : tie.Need-mul-loads-2
+mul-loads-2 c = search needs
+
+array-read-loads-2 : tie.Need-array-read-loads-2
+array-read-loads-2 c = search needs
+
+mul-loads-3 : tie.Need-mul-loads-3
+mul-loads-3 c = search needs
+
+array-read-loads-3 : tie.Need-array-read-loads-3
+array-read-loads-3 c = search needs
 
 loads-requires : tie.Need-loads-requires
 loads-requires c κs = search needs
@@ -73,31 +73,43 @@ mul-loaded c = search needs
 array-write-loaded : tie.Need-array-write-loaded
 array-write-loaded c = search needs
 
+of-requires : tie.Need-of-requires
+of-requires c κs = search needs
+
+of-requires-2 : tie.Need-of-requires-2
+of-requires-2 c κs = search needs
+
 returns : tie.Need-returns
 returns c =
-    counted-loaded _ _ _ (c .before .before .before .before .before .before .before .before .before .before .before .before .before .before .before .before .counter .ensures) (c .before .before .before .before .before .before .before .before .before .before .before .before .before .before .before .if1 .taken) _ _ _ _ _ _ _ _
+    counted-loaded _ _ _ (c .before .before .before .before .before .before .before .before .before .before .before .before .before .before .before .before .counter .ensures)
+    (c .before .before .before .before .before .before .before .before .before .before .before .before .before .before .before .if1 .taken) _ _ _ _ _ _ _ _
     (c .before .before .before .before .before .before .before .before .before .before .before .before .before .before .milliseconds .ensures)
     (c .before .before .before .before .before .before .before .before .before .before .before .before .before .in-window .ensures)
     (c .before .before .before .before .before .before .before .before .before .before .before .before .bit .ensures)
-    (c .before .before .before .before .before .before .before .before .before .before .triggers .ensures)
-    (c .before .before .before .before .before .before .before .before .before .logged .ensures)
-    (c .before .before .before .before .before .before .before .counted-at .ensures)
-    (c .before .before .before .bit2 .ensures)
-    (c .before .before .loads .ensures)
-    (c .before .if2 .taken)
+    (c .before .before .before .before .before .before .before .before .before .before .before .triggers .ensures)
+    (c .before .before .before .before .before .before .before .before .before .before .logged .ensures)
+    (c .before .before .before .before .before .before .before .before .counted-at .ensures)
+    (c .before .before .before .before .bit2 .ensures)
+    (c .before .before .before .loads .ensures)
+    (c .before .before .if2 .taken)
+    _
+    (c .of .ensures)
 
 returns-2 : tie.Need-returns-2
 returns-2 c =
-    counted-kept _ _ _ (c .before .before .before .before .before .before .before .before .before .before .before .before .before .before .before .before .before .before .counter .ensures) (c .before .before .before .before .before .before .before .before .before .before .before .before .before .before .before .before .before .if1 .taken) _ _ _ _ _ _ _ _
+    counted-kept _ _ _ (c .before .before .before .before .before .before .before .before .before .before .before .before .before .before .before .before .before .before .counter .ensures)
+    (c .before .before .before .before .before .before .before .before .before .before .before .before .before .before .before .before .before .if1 .taken) _ _ _ _ _ _ _ _
     (c .before .before .before .before .before .before .before .before .before .before .before .before .before .before .before .before .milliseconds .ensures)
     (c .before .before .before .before .before .before .before .before .before .before .before .before .before .before .before .in-window .ensures)
     (c .before .before .before .before .before .before .before .before .before .before .before .before .before .before .bit .ensures)
-    (c .before .before .before .before .before .before .before .before .before .before .before .before .triggers .ensures)
-    (c .before .before .before .before .before .before .before .before .before .before .before .logged .ensures)
-    (c .before .before .before .before .before .before .before .before .before .counted-at .ensures)
-    (c .before .before .before .before .before .bit2 .ensures)
-    (c .before .before .before .before .loads .ensures)
-    (c .before .before .before .if2 .left)
+    (c .before .before .before .before .before .before .before .before .before .before .before .before .before .triggers .ensures)
+    (c .before .before .before .before .before .before .before .before .before .before .before .before .logged .ensures)
+    (c .before .before .before .before .before .before .before .before .before .before .counted-at .ensures)
+    (c .before .before .before .before .before .before .bit2 .ensures)
+    (c .before .before .before .before .before .loads .ensures)
+    (c .before .before .before .before .if2 .left)
+    _
+    (c .of2 .ensures)
 
 returns-3 : tie.Need-returns-3
 returns-3 c = not-counted _ _ _ (c .before .counter .ensures) (c .if1 .left)
@@ -114,13 +126,13 @@ completion-spec =
     triggers-requires
     logged-requires
     counted-at-requires
-    mul-t25
-    array-read-t28
-    mul-t29
-    array-read-t32
-    mul-t33
-    array-read-t36
     bit-requires-2
+    mul-loads
+    array-read-loads
+    mul-loads-2
+    array-read-loads-2
+    mul-loads-3
+    array-read-loads-3
     loads-requires
     mul-stamps
     array-write-stamps
@@ -129,6 +141,8 @@ completion-spec =
     array-write-units
     mul-loaded
     array-write-loaded
+    of-requires
+    of-requires-2
     returns
     returns-2
     returns-3)
