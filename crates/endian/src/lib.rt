@@ -1,11 +1,10 @@
 // Bytes as numbers, the lowest byte first. Knows nothing of the monitor.
 ghost use mathlib.Core.Path.{_≡_};
-ghost use Prim.Native.Nat.{_+_, _*_};
-ghost use Rattle.endian.specs.Bytes.{anySet};
+ghost use Rattle.endian.specs.Bytes.{word, anySet};
 
 // The number that two bytes make.
 pub fn word(low: u8, high: u8) -> u16
-    ensures { λ r. ⌜ r ≡ low + 256 * high ⌝ }
+    ensures { λ r. ⌜ r ≡ word low high ⌝ }
 {
     low as u16 + 256 * (high as u16)
 }

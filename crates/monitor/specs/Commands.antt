@@ -1,6 +1,6 @@
 -- A completion: the counter that it counts for, and its latency in ms.
 use Prim.Native.Nat.{ℕ, zero, suc, _+_, _*_, _/_, min}
-use mathlib.Core.Bool.{Bool, true, false, cond}
+use mathlib.Core.Bool.{Bool, cond}
 use mathlib.Core.List.{List}
 use mathlib.Core.Option.{Option, none, some}
 use lib.Dec.{eqb, leb, ltb}

@@ -2,6 +2,6 @@ pub mod Answers
 pub mod Settings
 pub mod Refusals
 pub mod Commands
-pub mod Stamps
+pub mod Counting
 pub mod Timer
 pub mod Record

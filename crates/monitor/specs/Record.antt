@@ -6,15 +6,14 @@ use Prim.Native.Nat.{ℕ, _-_}
 use lib.Dec.{eqb}
 use lib.ListN.{getD, set, replicate}
 use Rattle.logpage.specs.Fields.{noSettings, emptyWindow, noDebugLog}
-use Rattle.logpage.specs.declared.Window.{Window}
 use Rattle.monitor.specs.declared.commands.Completion.{Completion}
 use Rattle.monitor.specs.declared.record.Monitor.{Monitor}
 use Rattle.monitor.specs.declared.timer.Tick.{Tick}
-use Rattle.monitor.specs.Answers.{Reply, refused, done, notCounted, counted, ended, unlessRefused}
+use Rattle.monitor.specs.Answers.{Reply, done, notCounted, counted, ended, unlessRefused}
 use Rattle.monitor.specs.Commands.{counterOf, latencyOf}
 use Rattle.monitor.specs.Refusals.{settingsRefusal, elapsedRefusal, clockRefusal}
-use Rattle.monitor.specs.Settings.{discard, inBytes}
-use Rattle.monitor.specs.Stamps.{bit, onceMore, loads, triggers, debugLog}
+use Rattle.monitor.specs.Settings.{discard, decoded}
+use Rattle.monitor.specs.Counting.{bit, loads, countedIn, triggers, debugLog}
 use Rattle.monitor.specs.Timer.{grown, ticked, inWindow}
 
 -- no stamp was loaded in the active window
@@ -38,18 +37,18 @@ newMonitor =
     }
 
 -- a refused call leaves the record untouched
-abbrev kept : Option ℕ → Monitor → Monitor → Monitor
-kept (some n) old next = old
-kept none old next = next
+abbrev untouchedIf : Option ℕ → Monitor → Monitor → Monitor
+untouchedIf (some n) old next = old
+untouchedIf none old next = next
 
 -- Accepted settings replace the old ones. With discard 1 the debug record is removed, with 0 it is kept, whatever
 -- enable says. With enable 1 both windows become empty and steps and partial step become 0, also when nothing changed.
 -- With enable 0 windows and steps are kept and frozen.
 abbrev configured : Monitor → List ℕ → Monitor
 configured m s =
-    let on : Bool = inBytes s .enabled in
+    let on : Bool = decoded s .enabled in
     record {
-      settings = inBytes s;
+      settings = decoded s;
       clock = m .clock;
       host = m .host;
       timer = cond on 0 (m .timer);
@@ -61,7 +60,7 @@ configured m s =
     }
 
 unfoldable pub afterSettings : Monitor → List ℕ → Monitor
-afterSettings m s = kept (settingsRefusal s) m (configured m s)
+afterSettings m s = untouchedIf (settingsRefusal s) m (configured m s)
 
 unfoldable pub settingsReply : List ℕ → Reply
 settingsReply s = unlessRefused (settingsRefusal s) done
@@ -78,17 +77,6 @@ loadsAt m n ms =
 
 abbrev triggersAt : Monitor → ℕ → Bool
 triggersAt m n = triggers (bit (m .settings .trigger) n) (m .debug .stamp)
-
--- The count grows. Loading sets the stamp to the clock, the shown latency to this latency in ms, and the mark to 1 if
--- the clock is host-set, else 0.
-unfoldable pub countedIn : Bool → (n clock ms : ℕ) (host : Bool) → Window → Window
-countedIn load n clock ms host w =
-    record {
-      counters = set (w .counters) n (onceMore (getD (w .counters) n 0));
-      stamps = cond load (set (w .stamps) n clock) (w .stamps);
-      latencies = cond load (set (w .latencies) n ms) (w .latencies);
-      units = cond load (set (w .units) n host) (w .units);
-    }
 
 -- a completion that counts for counter n
 abbrev countedAt : Monitor → ℕ → ℕ → Monitor
@@ -141,7 +129,7 @@ passed m ms =
     }
 
 unfoldable pub afterElapsed : Monitor → ℕ → Monitor
-afterElapsed m ms = kept (elapsedRefusal ms) m (passed m ms)
+afterElapsed m ms = untouchedIf (elapsedRefusal ms) m (passed m ms)
 
 -- The answer says whether a window ended.
 unfoldable pub elapsedReply : Monitor → ℕ → Reply
@@ -163,7 +151,7 @@ clockSet m value host =
 
 -- Setting the clock takes 64 bits, stores them and makes the clock host-set.
 unfoldable pub afterClock : Monitor → ℕ → Monitor
-afterClock m value = kept (clockRefusal value) m (clockSet m value true)
+afterClock m value = untouchedIf (clockRefusal value) m (clockSet m value true)
 
 unfoldable pub clockReply : ℕ → Reply
 clockReply value = unlessRefused (clockRefusal value) done

@@ -7,7 +7,7 @@ use lib.Dec.{eqb, ltb}
 use lib.ListN.{length, getD, drop}
 use Rattle.endian.specs.Bytes.{anySet}
 use Rattle.logpage.specs.declared.Settings.{Settings}
-use Rattle.monitor.specs.Settings.{discard, enable, inBytes}
+use Rattle.monitor.specs.Settings.{discard, enable, decoded}
 
 -- Within a call the earliest row wins, and no call is turned away otherwise.
 abbrev row : ℕ → Bool → Option ℕ → Option ℕ
@@ -33,7 +33,7 @@ fieldRefusal discard enable s =
 unfoldable pub settingsRefusal : List ℕ → Option ℕ
 settingsRefusal s =
     row 1 (not (eqb (length s) 4096))
-    (row 2 (anySet (drop 13 s)) (fieldRefusal (discard s) (enable s) (inBytes s)))
+    (row 2 (anySet (drop 13 s)) (fieldRefusal (discard s) (enable s) (decoded s)))
 
 -- elapsed time: above 300,000
 unfoldable pub elapsedRefusal : ℕ → Option ℕ

@@ -1,5 +1,5 @@
 -- Elapsed time: the clock, and the steps of the active window.
-use mathlib.Core.Bool.{Bool, true, false, cond}
+use mathlib.Core.Bool.{Bool, false, cond}
 use Prim.Native.Nat.{ℕ, _+_, _-_, _*_, min}
 use lib.Dec.{leb, ltb}
 use Rattle.monitor.specs.declared.timer.Tick.{Tick}

@@ -29,11 +29,11 @@ pub enum Bucket {
 // There are twelve counters; this is the number of none of them.
 pub const NOT_COUNTED: u16 = 12;
 
-// Whether a latency of so many steps of 5,000 microseconds reaches a threshold byte v, which means 5,000 x (v + 1).
-fn reaches(threshold: u8, steps: u32) -> bool
-    ensures { λ r. ⌜ r ≡ ltb threshold steps ⌝ }
+// Whether a latency of so many increments of 5 ms reaches a threshold, whose byte v means v + 1 of them.
+fn reaches(threshold: u8, increments: u32) -> bool
+    ensures { λ r. ⌜ r ≡ ltb threshold increments ⌝ }
 {
-    (threshold as u32) < steps
+    (threshold as u32) < increments
 }
 
 // The number of the counter of a bucket and a kind.
@@ -68,14 +68,14 @@ impl Completion {
     pub(crate) fn bucket(self, thresholds: [u8; 4]) -> Bucket
         ensures { λ r. ⌜ saysBucket r ≡ bucketOf thresholds self ⌝ }
     {
-        let steps = self.latency / 5000;
+        let increments = self.latency / 5000;
         let mut b: u8 = 4;
         loop {
             if b == 0 {
                 break Bucket::Below;
             }
             b -= 1;
-            if reaches(thresholds[b as usize], steps) {
+            if reaches(thresholds[b as usize], increments) {
                 break Bucket::At(b);
             }
         }

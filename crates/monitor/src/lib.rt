@@ -1,10 +1,10 @@
 // The latency monitor: its record, and the calls that take the record and hand back the next one.
 mod answers;
 mod commands;
+mod counting;
 mod record;
 mod refusals;
 mod settings;
-mod stamps;
 mod timer;
 
 pub use answers::Answer;

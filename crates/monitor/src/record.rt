@@ -8,9 +8,9 @@ use crate::answers::CompletionAnswer;
 use crate::answers::ElapsedAnswer;
 use crate::commands::Completion;
 use crate::commands::NOT_COUNTED;
+use crate::counting;
 use crate::refusals;
 use crate::settings;
-use crate::stamps;
 use crate::timer;
 use logpage::DebugLog;
 use logpage::Settings;
@@ -86,9 +86,9 @@ impl Monitor {
                 answer: Answer::Refused(n),
             },
             Answer::Done => {
-                let next = settings::in_bytes(s);
+                let next = settings::decode(s);
                 let held = self.debug;
-                let debug = settings::kept(held, s[11]);
+                let debug = settings::after_discard(held, s[11]);
                 self.settings = next;
                 if next.enabled {
                     let w = Window::empty();
@@ -123,16 +123,19 @@ impl Monitor {
             let n = counter as usize;
             let ms = c.milliseconds();
             let now = timer::in_window(self.timer, self.partial);
-            let debug = stamps::triggers(stamps::bit(self.settings.trigger, n), self.debug.stamp);
-            self.debug = stamps::logged(debug, self.debug, n, self.clock, ms, self.host);
+            let debug = counting::triggers(
+                counting::bit(self.settings.trigger, n),
+                self.debug.stamp,
+            );
+            self.debug = counting::logged(debug, self.debug, n, self.clock, ms, self.host);
             let active = self.active_window.counters;
-            let counters = stamps::counted_at(active, counter);
+            let counters = counting::counted_at(active, counter);
             let mut stamps = self.active_window.stamps;
             let mut latencies = self.active_window.latencies;
             let mut loaded = self.loaded;
-            let largest = stamps::bit(self.settings.mode, n);
+            let largest = counting::bit(self.settings.mode, n);
             let wait = self.settings.minimum_window;
-            if stamps::loads(stamps[n], latencies[n], loaded[n], ms, largest, wait, now) {
+            if counting::loads(stamps[n], latencies[n], loaded[n], ms, largest, wait, now) {
                 let mut units = self.active_window.units;
                 stamps[n] = self.clock;
                 latencies[n] = ms;

@@ -1,12 +1,12 @@
 // The 4,096 bytes of settings (source document 001, 4.15.11.1): which are accepted, and what they say.
 ghost use mathlib.Core.Path.{_≡_};
 ghost use mathlib.Core.Bool.{cond};
-ghost use Prim.Native.Nat.{_≤_, _<_};
+ghost use Prim.Native.Nat.{_<_};
 ghost use lib.Dec.{eqb};
 ghost use Rattle.logpage.specs.Fields.{noDebugLog};
 ghost use lib.ListN.{length};
 ghost use Rattle.monitor.specs.Answers.{done, saysAnswer, unlessRefused};
-ghost use Rattle.monitor.specs.Settings.{inBytes};
+ghost use Rattle.monitor.specs.Settings.{decoded};
 ghost use Rattle.monitor.specs.Refusals.{settingsRefusal, fieldRefusal, eitherAbove, unordered};
 use crate::answers::Answer;
 use crate::refusals;
@@ -15,10 +15,16 @@ use logpage::Settings;
 
 pub const LENGTH: usize = 4096;
 
+// The first byte that is reserved.
+const RESERVED: usize = 13;
+
+// The mask of all twelve counters.
+const COUNTERS: u16 = 4095;
+
 // The settings that accepted bytes put in force.
-pub(crate) fn in_bytes(s: &[u8]) -> Settings
+pub(crate) fn decode(s: &[u8]) -> Settings
     requires { ⌜ 12 < length (now s) ⌝ }
-    ensures { λ r. ⌜ r ≡ inBytes (now (s .entry)) ⌝ }
+    ensures { λ r. ⌜ r ≡ decoded (now (s .entry)) ⌝ }
 {
     Settings {
         timer_threshold: endian::word(s[0], s[1]),
@@ -61,7 +67,7 @@ fn check_fields(discard: u8, enable: u8, s: Settings) -> Answer
         Answer::Refused(refusals::NO_TIMER_THRESHOLD)
     } else if unordered(t) {
         Answer::Refused(refusals::THRESHOLD_ORDER)
-    } else if either_above(4095, s.mode, s.trigger) {
+    } else if either_above(COUNTERS, s.mode, s.trigger) {
         Answer::Refused(refusals::RESERVED_BIT)
     } else {
         Answer::Done
@@ -74,15 +80,15 @@ pub(crate) fn check(s: &[u8]) -> Answer
 {
     if s.len() != LENGTH {
         Answer::Refused(refusals::SETTINGS_LENGTH)
-    } else if endian::any_set(&s[13..]) {
+    } else if endian::any_set(&s[RESERVED..]) {
         Answer::Refused(refusals::RESERVED_BYTE)
     } else {
-        check_fields(s[11], s[12], in_bytes(s))
+        check_fields(s[11], s[12], decode(s))
     }
 }
 
 // The debug log after settings: none where they discard it.
-pub(crate) fn kept(log: DebugLog, discard: u8) -> DebugLog
+pub(crate) fn after_discard(log: DebugLog, discard: u8) -> DebugLog
     ensures { λ r. ⌜ r ≡ cond (eqb discard 1) noDebugLog log ⌝ }
 {
     if discard == 1 { DebugLog::none() } else { log }

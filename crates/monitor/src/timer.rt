@@ -1,6 +1,6 @@
 // The active bucket timer: time in the active window, in steps of five minutes and ms since the last step.
 ghost use mathlib.Core.Path.{_≡_};
-ghost use Prim.Native.Nat.{_+_, _*_, _≤_, min};
+ghost use Prim.Native.Nat.{_+_, _*_, _≤_};
 ghost use Rattle.monitor.specs.Timer.{ticked, inWindow, grown};
 
 // A step, in ms; also the most time that one call may bring.

@@ -14,15 +14,15 @@ use Rattle.logpage.specs.declared.Settings.{Settings}
 use Rattle.monitor.specs.declared.commands.Completion.{Completion}
 use Rattle.monitor.specs.Commands.{highestBelow, reaches, bucketOf, kindOf, counterAt, counterOf, saysCounter}
 
--- a threshold byte v is reached where v is below the latency's steps of 5,000
+-- a threshold byte v is reached where v is below the latency's increments of 5 ms
 reached : (us v : ℕ) → v < us / 5000 → 5000 * (v + 1) ≤ us
 reached us v h = omega (arith, le-div-iff-mul-le {k = 5000} {x = v + 1} {y = us} (omega arith) .0 (omega arith))
 
 passed : (us v : ℕ) → us / 5000 ≤ v → us < 5000 * (v + 1)
 passed us v h = omega (arith, div-lt-iff-lt-mul {k = 5000} {x = us} {y = v + 1} (omega arith) .0 (omega arith))
 
--- one step of the search down, with the latency in steps
-module _ (thresholds : List ℕ) (us steps : ℕ) (e : us / 5000 ≡ steps) (n : ℕ) (p : 0 < n) where
+-- one step of the search down, with the latency in increments
+module _ (thresholds : List ℕ) (us increments : ℕ) (e : us / 5000 ≡ increments) (n : ℕ) (p : 0 < n) where
   down :
       (n : ℕ) →
       0 < n →
@@ -32,11 +32,11 @@ module _ (thresholds : List ℕ) (us steps : ℕ) (e : us / 5000 ≡ steps) (n :
   down zero h = absurd (not-suc-le-zero h)
   down (suc n) h = rw (sub-one (suc n))
 
-  pub hit : ltb (getD thresholds (n - 1) 0) steps ≡ true → highestBelow thresholds us n ≡ some (n - 1)
-  hit t = rw (down n p, le-leb _ _ (reached us (getD thresholds (n - 1) 0) (omega (arith, ltb-true _ steps t))))
+  pub hit : ltb (getD thresholds (n - 1) 0) increments ≡ true → highestBelow thresholds us n ≡ some (n - 1)
+  hit t = rw (down n p, le-leb _ _ (reached us (getD thresholds (n - 1) 0) (omega (arith, ltb-true _ increments t))))
 
-  pub miss : ltb (getD thresholds (n - 1) 0) steps ≡ false → highestBelow thresholds us n ≡ highestBelow thresholds us (n - 1)
-  miss t = rw (down n p, lt-leb _ _ (passed us (getD thresholds (n - 1) 0) (omega (arith, ltb-false _ steps t))))
+  pub miss : ltb (getD thresholds (n - 1) 0) increments ≡ false → highestBelow thresholds us n ≡ highestBelow thresholds us (n - 1)
+  miss t = rw (down n p, lt-leb _ _ (passed us (getD thresholds (n - 1) 0) (omega (arith, ltb-false _ increments t))))
 
 pub nothing : (thresholds : List ℕ) (us : ℕ) → highestBelow thresholds us 0 ≡ none
 unfolding highestBelow

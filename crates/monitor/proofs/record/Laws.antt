@@ -2,11 +2,11 @@
 use mathlib.Core.Path.{_≡_, sym, _∙_}
 use mathlib.Core.Bool.{Bool, true, false, cond}
 use mathlib.Core.List.{List}
-use mathlib.Core.Option.{Option, some, none}
+use mathlib.Core.Option.{some, none}
 use Prim.Native.Nat.{ℕ, _-_, _≤_, _<_}
 use lib.Dec.{eqb}
 use lib.ListN.{getD, set}
-use borrow.Author.Tests.{lt-ltb, le-ltb}
+use borrow.Author.Tests.{le-ltb}
 use Rattle.logpage.specs.Fields.{windowOf, emptyWindow, noDebugLog}
 use Rattle.logpage.specs.declared.DebugLog.{DebugLog}
 use Rattle.logpage.specs.declared.Settings.{Settings}
@@ -16,13 +16,13 @@ use Rattle.monitor.specs.declared.record.Monitor.{Monitor}
 use Rattle.monitor.specs.declared.timer.Tick.{Tick}
 use Rattle.monitor.specs.Answers.{done, refused, notCounted, counted, ended, unlessRefused}
 use Rattle.monitor.specs.Refusals.{settingsRefusal, elapsedRefusal}
-use Rattle.monitor.specs.Settings.{discard, inBytes}
-use Rattle.monitor.specs.Stamps.{bit, onceMore, loads, triggers, debugLog}
+use Rattle.monitor.specs.Settings.{discard, decoded}
+use Rattle.monitor.specs.Counting.{bit, onceMore, loads, countedIn, triggers, debugLog}
 use Rattle.monitor.specs.Commands.{saysCounter, counterOf, latencyOf}
 use Rattle.monitor.specs.Timer.{grown, ticked, inWindow}
 use Rattle.monitor.proofs.settings.Laws.{refused-by}
 use Rattle.monitor.proofs.commands.Laws.{named, unnamed}
-use Rattle.monitor.specs.Record.{noLoads, afterSettings, settingsReply, countedIn, afterCompletion, completionReply, afterElapsed, elapsedReply}
+use Rattle.monitor.specs.Record.{noLoads, afterSettings, settingsReply, afterCompletion, completionReply, afterElapsed, elapsedReply}
 
 -- settings that are turned away
 pub settings-refused :
@@ -34,7 +34,7 @@ settings-refused m s n e = (rw (refused-by (settingsRefusal s) n e), e)
 
 -- settings that are accepted
 module _ (m : Monitor) (s : List ℕ) (accepted : settingsRefusal s ≡ none) (next : Settings) (debug : DebugLog)
-    (read : next ≡ inBytes s)
+    (read : next ≡ decoded s)
     (keeps : debug ≡ cond (eqb (discard s) 1) noDebugLog (m .debug)) where
   pub configured-on :
       next .enabled ≡ true →

@@ -11,7 +11,7 @@ use borrow.Author.Tests.{eq-eqb, ne-eqb, eqb-true}
 use Rattle.endian.specs.Bytes.{anySet}
 use Rattle.logpage.specs.declared.Settings.{Settings}
 use Rattle.monitor.specs.Answers.{done, refused, unlessRefused}
-use Rattle.monitor.specs.Settings.{inBytes}
+use Rattle.monitor.specs.Settings.{decoded}
 use Rattle.monitor.specs.Refusals.{settingsRefusal, fieldRefusal, eitherAbove, unordered}
 use Rattle.monitor.specs.Settings.{discard as discardOf, enable as enableOf}
 
@@ -43,7 +43,7 @@ module _ (s : List ℕ) where
     unfolding settingsRefusal
     reserved-refused used = rw (eq-eqb (length s) 4096 whole, used)
 
-    pub fields-decide : anySet (drop 13 s) ≡ false → unlessRefused (fieldRefusal (discardOf s) (enableOf s) (inBytes s)) done ≡ unlessRefused (settingsRefusal s) done
+    pub fields-decide : anySet (drop 13 s) ≡ false → unlessRefused (fieldRefusal (discardOf s) (enableOf s) (decoded s)) done ≡ unlessRefused (settingsRefusal s) done
     unfolding settingsRefusal
     fields-decide clear = rw (eq-eqb (length s) 4096 whole, clear)
 

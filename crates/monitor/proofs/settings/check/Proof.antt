@@ -9,7 +9,7 @@ use Rattle.monitor.proofs.settings.check.Reads as reads
 use Rattle.monitor.proofs.settings.check.Lts as lts
 use Rattle.endian.proofs.any_set.Reads as any-set-reads
 use Rattle.monitor.proofs.settings.check_fields.Reads as check-fields-reads
-use Rattle.monitor.proofs.settings.in_bytes.Reads as in-bytes-reads
+use Rattle.monitor.proofs.settings.decode.Reads as decode-reads
 
 sub-any-set : tie.Need-sub-any-set
 sub-any-set c = search needs
@@ -29,8 +29,8 @@ shared-slice-read-check-fields c = search needs
 shared-slice-read-check-fields-2 : tie.Need-shared-slice-read-check-fields-2
 shared-slice-read-check-fields-2 c = search needs
 
-in-bytes-requires : tie.Need-in-bytes-requires
-in-bytes-requires c κs = search needs
+decode-requires : tie.Need-decode-requires
+decode-requires c κs = search needs
 
 check-fields-requires : tie.Need-check-fields-requires
 check-fields-requires c κs = search needs
@@ -42,7 +42,7 @@ returns-2 : tie.Need-returns-2
 returns-2 c = reserved-refused _ (search needs) (rw (← part-to-end _ 13) (sym (c .before .any-set .ensures) ∙ c .if2 .taken))
 
 returns-3 : tie.Need-returns-3
-returns-3 c = c .check-fields .ensures ∙ (rw (c .before .in-bytes .ensures) (fields-decide _ (search needs) (rw (← part-to-end _ 13) (sym (c .before .before .before .before .before .any-set .ensures) ∙ c .before .before .before .before .if2 .left))))
+returns-3 c = c .check-fields .ensures ∙ (rw (c .before .decode .ensures) (fields-decide _ (search needs) (rw (← part-to-end _ 13) (sym (c .before .before .before .before .before .any-set .ensures) ∙ c .before .before .before .before .if2 .left))))
 
 pub check-spec : {M : Type 1} → statement M
 check-spec =
@@ -54,7 +54,7 @@ check-spec =
     any-set-requires
     shared-slice-read-check-fields
     shared-slice-read-check-fields-2
-    in-bytes-requires
+    decode-requires
     check-fields-requires
     returns
     returns-2

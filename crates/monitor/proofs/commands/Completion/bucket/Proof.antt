@@ -8,12 +8,12 @@ use Rattle.monitor.proofs.commands.Completion.bucket.Statement.{stateme
 use Rattle.monitor.proofs.commands.Completion.bucket.Tie as tie
 
 abbrev Inv-loop : tie.InvT-loop
-Inv-loop thresholds steps b₀ b =
+Inv-loop thresholds increments b₀ b =
     (b ≤ 4) ×
-    ((us : ℕ) → us / 5000 ≡ steps → highestBelow thresholds us b ≡ highestBelow thresholds us 4)
+    ((us : ℕ) → us / 5000 ≡ increments → highestBelow thresholds us b ≡ highestBelow thresholds us 4)
 
 abbrev μ-loop : tie.MeasureT-loop
-μ-loop thresholds steps b₀ b = b
+μ-loop thresholds increments b₀ b = b
 
 loop-holds : tie.Need-loop-holds Inv-loop μ-loop
 loop-holds c = (search needs, λ us e. refl)

@@ -1,5 +1,5 @@
 -- `Completion::counter`: in a bucket, below the buckets, and disabled.
-use mathlib.Core.Path.{_≡_, sym, ap, _∙_}
+use mathlib.Core.Path.{sym, ap, _∙_}
 use Rattle.monitor.specs.Commands.{counterOf, saysBucket}
 use Rattle.monitor.proofs.commands.Laws.{bucket-few}
 use borrow.Author.Needs.{needs}

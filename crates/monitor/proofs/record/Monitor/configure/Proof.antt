@@ -23,14 +23,14 @@ enum-told c = search needs
 accepted : (c : tie.After-enum-told) → settingsRefusal (c .before .before .before .before .args .s .now) ≡ none
 accepted c = not-refused _ (sym (ap saysAnswer (c .enum-told .given .1)) ∙ c .before .before .check .ensures)
 
-in-bytes-requires : tie.Need-in-bytes-requires
-in-bytes-requires c κs = omega (arith, accepted-length _ (accepted c))
+decode-requires : tie.Need-decode-requires
+decode-requires c κs = omega (arith, accepted-length _ (accepted c))
 
-shared-slice-read-kept : tie.Need-shared-slice-read-kept
-shared-slice-read-kept c = omega (arith, accepted-length _ (accepted (c .before .before .before)))
+shared-slice-read-after-discard : tie.Need-shared-slice-read-after-discard
+shared-slice-read-after-discard c = omega (arith, accepted-length _ (accepted (c .before .before .before)))
 
-kept-requires : tie.Need-kept-requires
-kept-requires c κs = search needs
+after-discard-requires : tie.Need-after-discard-requires
+after-discard-requires c κs = search needs
 
 empty-requires : tie.Need-empty-requires
 empty-requires c κs = search needs
@@ -41,11 +41,11 @@ returns c =
 
 returns-2 : tie.Need-returns-2
 returns-2 c =
-    configured-on _ _ (accepted (c .before .before .before .before .before .before .before)) _ _ (c .before .before .before .before .before .before .in-bytes .ensures) (c .before .before .before .kept .ensures) (c .before .before .if1 .taken) _ (c .before .empty .ensures)
+    configured-on _ _ (accepted (c .before .before .before .before .before .before .before)) _ _ (c .before .before .before .before .before .before .decode .ensures) (c .before .before .before .after-discard .ensures) (c .before .before .if1 .taken) _ (c .before .empty .ensures)
 
 returns-3 : tie.Need-returns-3
 returns-3 c =
-    configured-off _ _ (accepted (c .before .before .before .before .before)) _ _ (c .before .before .before .before .in-bytes .ensures) (c .before .kept .ensures) (c .if1 .left)
+    configured-off _ _ (accepted (c .before .before .before .before .before)) _ _ (c .before .before .before .before .decode .ensures) (c .before .after-discard .ensures) (c .if1 .left)
 
 pub configure-spec : {M : Type 1} → statement M
 configure-spec =
@@ -54,9 +54,9 @@ configure-spec =
     check-requires
     enum-known-n
     enum-told
-    in-bytes-requires
-    shared-slice-read-kept
-    kept-requires
+    decode-requires
+    shared-slice-read-after-discard
+    after-discard-requires
     empty-requires
     returns
     returns-2

@@ -1,8 +1,8 @@
--- `in_bytes`: each field where the table has it.
-use Rattle.monitor.specs.Settings.{inBytes}
+-- `decode`: each field where the table has it.
+use Rattle.monitor.specs.Settings.{decoded}
 use borrow.Author.Needs.{needs}
-use Rattle.monitor.proofs.settings.in_bytes.Statement.{statement}
-use Rattle.monitor.proofs.settings.in_bytes.Tie as tie
+use Rattle.monitor.proofs.settings.decode.Statement.{statement}
+use Rattle.monitor.proofs.settings.decode.Tie as tie
 
 shared-slice-read-word : tie.Need-shared-slice-read-word
 shared-slice-read-word c = search needs
@@ -50,11 +50,11 @@ shared-slice-read-t29 : tie.Need-shared-slice-read-t29
 shared-slice-read-t29 c = search needs
 
 returns : tie.Need-returns
-unfolding inBytes
+unfolding decoded
 returns c = simp (c .before .before .before .before .before .before .word3 .ensures, c .before .before .before .before .before .before .before .before .before .word2 .ensures, c .before .before .before .before .before .before .before .before .before .before .before .before .word .ensures)
 
-pub in-bytes-spec : {M : Type 1} → statement M
-in-bytes-spec =
+pub decode-spec : {M : Type 1} → statement M
+decode-spec =
     tie.close
     (tie.spec
     shared-slice-read-word

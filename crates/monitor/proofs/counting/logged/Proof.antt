@@ -1,7 +1,7 @@
 -- `logged`: a log that is taken, and the one that was held.
 use borrow.Author.Needs.{needs}
-use Rattle.monitor.proofs.stamps.logged.Statement.{statement}
-use Rattle.monitor.proofs.stamps.logged.Tie as tie
+use Rattle.monitor.proofs.counting.logged.Statement.{statement}
+use Rattle.monitor.proofs.counting.logged.Tie as tie
 
 one-bit-requires : tie.Need-one-bit-requires
 one-bit-requires c κs = search needs

@@ -1,9 +1,9 @@
 -- `loads`: unset; mode largest and a larger latency; not larger; mode first.
 use borrow.Author.Tests.{eq-eqb, ne-eqb, lt-ltb, le-ltb}
-use Rattle.monitor.specs.Stamps.{loads}
+use Rattle.monitor.specs.Counting.{loads}
 use borrow.Author.Needs.{needs}
-use Rattle.monitor.proofs.stamps.loads.Statement.{statement}
-use Rattle.monitor.proofs.stamps.loads.Tie as tie
+use Rattle.monitor.proofs.counting.loads.Statement.{statement}
+use Rattle.monitor.proofs.counting.loads.Tie as tie
 
 mul-result : tie.Need-mul-result
 mul-result c = search needs

@@ -1,7 +1,7 @@
 -- `triggers`: the trigger bit set, and clear.
-use Rattle.monitor.specs.Stamps.{triggers}
-use Rattle.monitor.proofs.stamps.triggers.Statement.{statement}
-use Rattle.monitor.proofs.stamps.triggers.Tie as tie
+use Rattle.monitor.specs.Counting.{triggers}
+use Rattle.monitor.proofs.counting.triggers.Statement.{statement}
+use Rattle.monitor.proofs.counting.triggers.Tie as tie
 
 returns : tie.Need-returns
 unfolding triggers

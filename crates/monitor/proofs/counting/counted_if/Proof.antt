@@ -1,9 +1,9 @@
 -- `counted_if`: a product of two flags is at most one.
 use borrow.Author.Needs.{needs}
 use lib.Dec.{ltb}
-use Rattle.monitor.proofs.stamps.Laws.{counts, counted-fits, flags-fit}
-use Rattle.monitor.proofs.stamps.counted_if.Statement.{statement}
-use Rattle.monitor.proofs.stamps.counted_if.Tie as tie
+use Rattle.monitor.proofs.counting.Laws.{counts, counted-fits, flags-fit}
+use Rattle.monitor.proofs.counting.counted_if.Statement.{statement}
+use Rattle.monitor.proofs.counting.counted_if.Tie as tie
 
 one-if-requires : tie.Need-one-if-requires
 one-if-requires c κs = search needs

@@ -3,8 +3,8 @@ use native.Mathlib.Nat.{one-mul, mod-eq-of-lt}
 use native.Mathlib.Omega.{arith}
 use lib.Pow.{pow-lt}
 use borrow.Author.Needs.{needs}
-use Rattle.monitor.proofs.stamps.one_bit.Statement.{statement}
-use Rattle.monitor.proofs.stamps.one_bit.Tie as tie
+use Rattle.monitor.proofs.counting.one_bit.Statement.{statement}
+use Rattle.monitor.proofs.counting.one_bit.Tie as tie
 
 cast-result : tie.Need-cast-result
 cast-result c = search needs

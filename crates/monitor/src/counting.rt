@@ -3,7 +3,7 @@ ghost use mathlib.Core.Path.{_≡_};
 ghost use mathlib.Core.Bool.{cond};
 ghost use Prim.Native.Nat.{_-_, _^_, _<_};
 ghost use lib.ListN.{getD, set};
-ghost use Rattle.monitor.specs.Stamps.{bit, onceMore, loads, triggers, debugLog};
+ghost use Rattle.monitor.specs.Counting.{bit, onceMore, loads, triggers, debugLog};
 use logpage::DebugLog;
 use logpage::UNSET;
 

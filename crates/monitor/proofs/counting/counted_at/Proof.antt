@@ -3,10 +3,10 @@ use mathlib.Core.Path.{_≡_, _∙_}
 use Prim.Native.Nat.{_≤_, _-_}
 use native.Mathlib.Omega.{arith}
 use borrow.Author.Needs.{needs}
-use Rattle.monitor.specs.Stamps.{onceMore}
-use Rattle.monitor.proofs.stamps.Laws.{written, none-written, all-written, write-more}
-use Rattle.monitor.proofs.stamps.counted_at.Statement.{statement}
-use Rattle.monitor.proofs.stamps.counted_at.Tie as tie
+use Rattle.monitor.specs.Counting.{onceMore}
+use Rattle.monitor.proofs.counting.Laws.{written, none-written, all-written, write-more}
+use Rattle.monitor.proofs.counting.counted_at.Statement.{statement}
+use Rattle.monitor.proofs.counting.counted_at.Tie as tie
 
 abbrev Inv-loop : tie.InvT-loop
 Inv-loop n counters₀ i₀ counters i = (i ≤ 12) × (counters ≡ written onceMore counters₀ n i)

@@ -1,9 +1,11 @@
 -- A counted completion: its counter, its counter's stamp, and the debug log.
-use mathlib.Core.Bool.{Bool, true, false, _&&_, _||_}
+use mathlib.Core.Bool.{Bool, cond, _&&_, _||_}
 use Prim.Native.Nat.{ℕ, _+_, _*_, _/_, _%_, _^_, min}
 use lib.Dec.{eqb, leb, ltb}
+use lib.ListN.{getD, set}
 use Rattle.logpage.specs.Fields.{unset}
 use Rattle.logpage.specs.declared.DebugLog.{DebugLog}
+use Rattle.logpage.specs.declared.Window.{Window}
 
 -- bit n for pair n
 abbrev pub bit : ℕ → ℕ → Bool
@@ -18,6 +20,17 @@ onceMore counter = min (counter + 1) 4294967295
 unfoldable pub loads : (stamp latency since ms : ℕ) (largest : Bool) (minimum : ℕ) → Bool
 loads stamp latency since ms largest minimum =
     eqb stamp unset || (largest && (ltb latency ms && leb (100 * minimum) since))
+
+-- The count grows. Loading sets the stamp to the clock, the shown latency to this latency in ms, and the mark to 1 if
+-- the clock is host-set, else 0.
+unfoldable pub countedIn : Bool → (n clock ms : ℕ) (host : Bool) → Window → Window
+countedIn load n clock ms host w =
+    record {
+      counters = set (w .counters) n (onceMore (getD (w .counters) n 0));
+      stamps = cond load (set (w .stamps) n clock) (w .stamps);
+      latencies = cond load (set (w .latencies) n ms) (w .latencies);
+      units = cond load (set (w .units) n host) (w .units);
+    }
 
 -- A debug record is taken if the pair's trigger bit is 1 and no debug record is held.
 unfoldable pub triggers : (trigger : Bool) (held : ℕ) → Bool
