@@ -81,33 +81,27 @@ impl Monitor {
         ensures answer { λ r. ⌜ saysAnswer (r .answer) ≡ settingsReply (now (s .entry)) ⌝ }
     {
         match settings::check(s) {
-            Answer::Refused(n) => Step {
-                next: self,
-                answer: Answer::Refused(n),
-            },
+            Answer::Refused(n) => {
+                let answer = Answer::Refused(n);
+                Step { next: self, answer }
+            }
             Answer::Done => {
                 let next = settings::decode(s);
-                let held = self.debug;
-                let debug = settings::after_discard(held, s[11]);
+                let debug = settings::after_discard(self.debug, s[settings::DISCARD]);
                 self.settings = next;
+                self.debug = debug;
                 if next.enabled {
                     let w = Window::empty();
                     self.timer = 0;
                     self.partial = 0;
                     self.loaded = [0; 12];
-                    self.debug = debug;
                     self.static_window = w;
                     self.active_window = w;
-                    Step {
-                        next: self,
-                        answer: Answer::Done,
-                    }
+                    let answer = Answer::Done;
+                    Step { next: self, answer }
                 } else {
-                    self.debug = debug;
-                    Step {
-                        next: self,
-                        answer: Answer::Done,
-                    }
+                    let answer = Answer::Done;
+                    Step { next: self, answer }
                 }
             }
         }
@@ -181,21 +175,15 @@ impl Monitor {
                 self.loaded = [0; 12];
                 self.static_window = w;
                 self.active_window = e;
-                ElapsedStep {
-                    next: self,
-                    answer: ElapsedAnswer::Ended,
-                }
+                let answer = ElapsedAnswer::Ended;
+                ElapsedStep { next: self, answer }
             } else {
-                ElapsedStep {
-                    next: self,
-                    answer: ElapsedAnswer::Active,
-                }
+                let answer = ElapsedAnswer::Active;
+                ElapsedStep { next: self, answer }
             }
         } else {
-            ElapsedStep {
-                next: self,
-                answer: ElapsedAnswer::Refused(refusals::ELAPSED_TIME),
-            }
+            let answer = ElapsedAnswer::Refused(refusals::ELAPSED_TIME);
+            ElapsedStep { next: self, answer }
         }
     }
 
@@ -207,15 +195,11 @@ impl Monitor {
         if value <= timer::CLOCK_TOP {
             self.clock = value;
             self.host = true;
-            Step {
-                next: self,
-                answer: Answer::Done,
-            }
+            let answer = Answer::Done;
+            Step { next: self, answer }
         } else {
-            Step {
-                next: self,
-                answer: Answer::Refused(refusals::CLOCK_VALUE),
-            }
+            let answer = Answer::Refused(refusals::CLOCK_VALUE);
+            Step { next: self, answer }
         }
     }
 
@@ -226,9 +210,7 @@ impl Monitor {
     {
         self.clock = 0;
         self.host = false;
-        Step {
-            next: self,
-            answer: Answer::Done,
-        }
+        let answer = Answer::Done;
+        Step { next: self, answer }
     }
 }

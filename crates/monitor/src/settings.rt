@@ -15,6 +15,11 @@ use logpage::Settings;
 
 pub const LENGTH: usize = 4096;
 
+// The places of the two flags.
+pub const DISCARD: usize = 11;
+
+pub const ENABLE: usize = 12;
+
 // The first byte that is reserved.
 const RESERVED: usize = 13;
 
@@ -32,7 +37,7 @@ pub(crate) fn decode(s: &[u8]) -> Settings
         trigger: endian::word(s[9], s[10]),
         thresholds: [s[2], s[3], s[4], s[5]],
         minimum_window: s[8],
-        enabled: s[12] == 1,
+        enabled: s[ENABLE] == 1,
     }
 }
 
@@ -83,7 +88,7 @@ pub(crate) fn check(s: &[u8]) -> Answer
     } else if endian::any_set(&s[RESERVED..]) {
         Answer::Refused(refusals::RESERVED_BYTE)
     } else {
-        check_fields(s[11], s[12], decode(s))
+        check_fields(s[DISCARD], s[ENABLE], decode(s))
     }
 }
 

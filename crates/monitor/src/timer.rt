@@ -1,7 +1,7 @@
 // The active bucket timer: time in the active window, in steps of five minutes and ms since the last step.
 ghost use mathlib.Core.Path.{_≡_};
 ghost use Prim.Native.Nat.{_+_, _*_, _≤_};
-ghost use Rattle.monitor.specs.Timer.{ticked, inWindow, grown};
+ghost use Rattle.monitor.specs.Timer.{tick, ticked, inWindow, grown};
 
 // A step, in ms; also the most time that one call may bring.
 pub const STEP: u32 = 300_000;
@@ -17,6 +17,18 @@ pub struct Tick {
     pub expired: bool,
 }
 
+impl Tick {
+    fn of(timer: u16, partial: u32, expired: bool) -> Self
+        ensures { λ r. ⌜ r ≡ tick timer partial expired ⌝ }
+    {
+        Tick {
+            timer,
+            partial,
+            expired,
+        }
+    }
+}
+
 // The timer after elapsed time, which it measures while enabled.
 pub(crate) fn ticked(enabled: bool, threshold: u16, timer: u16, partial: u32, ms: u32) -> Tick
     requires { ⌜ ms ≤ 300000 ⌝ }
@@ -25,32 +37,16 @@ pub(crate) fn ticked(enabled: bool, threshold: u16, timer: u16, partial: u32, ms
     if enabled {
         let sum = partial as u64 + ms as u64;
         if sum < STEP as u64 {
-            return Tick {
-                timer: timer,
-                partial: sum as u32,
-                expired: false,
-            };
+            return Tick::of(timer, sum as u32, false);
         }
         let rest = (sum - STEP as u64) as u32;
         let next = timer as u32 + 1;
         if next < threshold as u32 {
-            return Tick {
-                timer: next as u16,
-                partial: rest,
-                expired: false,
-            };
+            return Tick::of(next as u16, rest, false);
         }
-        return Tick {
-            timer: 0,
-            partial: rest,
-            expired: true,
-        };
+        return Tick::of(0, rest, true);
     }
-    Tick {
-        timer: timer,
-        partial: partial,
-        expired: false,
-    }
+    Tick::of(timer, partial, false)
 }
 
 // Time in the active window, in ms.

@@ -32,151 +32,109 @@ pub settings-refused :
 unfolding afterSettings settingsReply
 settings-refused m s n e = (rw (refused-by (settingsRefusal s) n e), e)
 
--- settings that are accepted
-module _ (m : Monitor) (s : List ℕ) (accepted : settingsRefusal s ≡ none) (next : Settings) (debug : DebugLog)
-    (read : next ≡ decoded s)
-    (keeps : debug ≡ cond (eqb (discard s) 1) noDebugLog (m .debug)) where
-  pub configured-on :
-      next .enabled ≡ true →
-      (w : Window) →
-      w ≡ emptyWindow →
-      (_≡_ {A = Monitor}
-      (record {
-        settings = next;
-        timer = 0;
-        host = m .host;
-        partial = 0;
-        clock = m .clock;
-        loaded = noLoads;
-        «active_window» = w;
-        «static_window» = w;
-        debug = debug;
-      })
-      (afterSettings m s)) ×
-      (done ≡ settingsReply s)
-  unfolding afterSettings settingsReply
-  configured-on e w we = (rw (accepted, ← read, e, we, keeps), rw accepted)
+-- settings that are accepted, by whether they enable
+abbrev pub replaced : Monitor → Settings → DebugLog → Bool → Monitor
+replaced m next debug on =
+    record {
+      settings = next;
+      timer = cond on 0 (m .timer);
+      host = m .host;
+      partial = cond on 0 (m .partial);
+      clock = m .clock;
+      loaded = cond on noLoads (m .loaded);
+      debug = debug;
+      «static_window» = cond on emptyWindow (m .«static_window»);
+      «active_window» = cond on emptyWindow (m .«active_window»);
+    }
 
-  pub configured-off :
-      next .enabled ≡ false →
-      (_≡_ {A = Monitor}
-      (record {
-        settings = next;
-        timer = m .timer;
-        host = m .host;
-        partial = m .partial;
-        clock = m .clock;
-        loaded = m .loaded;
-        «active_window» = m .«active_window»;
-        «static_window» = m .«static_window»;
-        debug = debug;
-      })
-      (afterSettings m s)) ×
-      (done ≡ settingsReply s)
-  unfolding afterSettings settingsReply
-  configured-off e = (rw (accepted, ← read, e, keeps), rw accepted)
+pub settings-accepted :
+    (m : Monitor) (s : List ℕ) (next : Settings) (debug : DebugLog) (on : Bool) →
+    settingsRefusal s ≡ none →
+    next ≡ decoded s →
+    debug ≡ cond (eqb (discard s) 1) noDebugLog (m .debug) →
+    next .enabled ≡ on →
+    (replaced m next debug on ≡ afterSettings m s) × (done ≡ settingsReply s)
+unfolding afterSettings settingsReply
+settings-accepted m s next debug on accepted read keeps enables =
+    (rw (accepted, ← read, ← enables, keeps), rw accepted)
 
--- a completion, with the number of its counter
-module _ (m : Monitor) (c : Completion) (n : ℕ) (says : saysCounter n ≡ counterOf (m .settings) c) where
-  pub not-counted : 12 ≤ n → (m ≡ afterCompletion m c) × (notCounted ≡ completionReply m c)
-  unfolding afterCompletion completionReply
-  not-counted h = let none-at = sym says ∙ unnamed n h in (rw none-at, rw none-at)
+-- a completion that is not counted
+pub not-counted :
+    (m : Monitor) (c : Completion) (n : ℕ) →
+    saysCounter n ≡ counterOf (m .settings) c →
+    12 ≤ n →
+    (m ≡ afterCompletion m c) × (notCounted ≡ completionReply m c)
+unfolding afterCompletion completionReply
+not-counted m c n says h = let none-at = sym says ∙ unnamed n h in (rw none-at, rw none-at)
 
-  module _ (few : n < 12) (ms now : ℕ) (trigger debug largest load : Bool) (log : DebugLog) (counters : List ℕ)
-      (measured : ms ≡ latencyOf c)
-      (timed : now ≡ inWindow (m .timer) (m .partial))
-      (asked : trigger ≡ bit (m .settings .trigger) n)
-      (takes : debug ≡ triggers trigger (m .debug .stamp))
-      (logs : log ≡ cond debug (debugLog n (m .clock) ms (m .host)) (m .debug))
-      (counts : counters ≡ set (m .«active_window» .counters) n (onceMore (getD (m .«active_window» .counters) n 0)))
-      (mode : largest ≡ bit (m .settings .mode) n)
-      (loading :
-      load ≡
-      loads (getD (m .«active_window» .stamps) n 0) (getD (m .«active_window» .latencies) n 0) (now - getD (m .loaded) n 0) ms
-      largest
-      (m .settings .«minimum_window»)) where
-    chosen : counterOf (m .settings) c ≡ some n
-    chosen = sym says ∙ named n few
+-- what a counted completion writes, by whether it loads the stamp
+abbrev pub written : Monitor → (n ms now : ℕ) (log : DebugLog) (counters : List ℕ) (load : Bool) → Monitor
+written m n ms now log counters load =
+    record {
+      settings = m .settings;
+      timer = m .timer;
+      host = m .host;
+      partial = m .partial;
+      clock = m .clock;
+      loaded = cond load (set (m .loaded) n now) (m .loaded);
+      debug = log;
+      «static_window» = m .«static_window»;
+      «active_window» =
+          windowOf counters
+          (cond load (set (m .«active_window» .stamps) n (m .clock)) (m .«active_window» .stamps))
+          (cond load (set (m .«active_window» .latencies) n ms) (m .«active_window» .latencies))
+          (cond load (set (m .«active_window» .units) n (m .host)) (m .«active_window» .units));
+    }
 
-    reply : counted n load debug ≡ completionReply m c
-    unfolding completionReply
-    reply = rw (chosen, ← measured, ← timed, ← mode, ← loading, ← asked, ← takes)
+-- what is known once it is decided whether the stamp is loaded
+pub record Decided (m : Monitor) (c : Completion) (n ms now : ℕ) (log : DebugLog) (counters : List ℕ) (debug load : Bool) : Type 0 where
+  pub next : written m n ms now log counters load ≡ afterCompletion m c
+  pub reply : counted n load debug ≡ completionReply m c
 
-    -- the record with what the completion writes
-    abbrev next : List ℕ → Window → Monitor
-    next loaded w =
-        record {
-          settings = m .settings;
-          timer = m .timer;
-          host = m .host;
-          partial = m .partial;
-          clock = m .clock;
-          loaded = loaded;
-          debug = log;
-          «static_window» = m .«static_window»;
-          «active_window» = w;
-        }
+pub decide :
+    (m : Monitor) (c : Completion) (n ms now : ℕ) (log : DebugLog) (counters : List ℕ) (trigger debug largest load : Bool) →
+    saysCounter n ≡ counterOf (m .settings) c →
+    n < 12 →
+    ms ≡ latencyOf c →
+    now ≡ inWindow (m .timer) (m .partial) →
+    trigger ≡ bit (m .settings .trigger) n →
+    debug ≡ triggers trigger (m .debug .stamp) →
+    log ≡ cond debug (debugLog n (m .clock) ms (m .host)) (m .debug) →
+    counters ≡ set (m .«active_window» .counters) n (onceMore (getD (m .«active_window» .counters) n 0)) →
+    largest ≡ bit (m .settings .mode) n →
+    load ≡
+    loads (getD (m .«active_window» .stamps) n 0) (getD (m .«active_window» .latencies) n 0) (now - getD (m .loaded) n 0) ms largest
+    (m .settings .«minimum_window») →
+    Decided m c n ms now log counters debug load
+unfolding afterCompletion completionReply countedIn
+decide m c n ms now log counters trigger debug largest load says few measured timed asked takes logs counts mode loading =
+    let chosen : counterOf (m .settings) c ≡ some n = sym says ∙ named n few in
+    record {
+      next = rw (chosen, ← measured, ← timed, ← mode, ← loading, ← asked, ← takes, ← logs, ← counts);
+      reply = rw (chosen, ← measured, ← timed, ← mode, ← loading, ← asked, ← takes);
+    }
 
-    pub counted-loaded :
-        load ≡ true →
-        (w : Window) →
-        w ≡
-        windowOf counters (set (m .«active_window» .stamps) n (m .clock)) (set (m .«active_window» .latencies) n ms)
-        (set (m .«active_window» .units) n (m .host)) →
-        (next (set (m .loaded) n now) w ≡ afterCompletion m c) × (counted n true debug ≡ completionReply m c)
-    unfolding afterCompletion countedIn
-    counted-loaded e w we =
-        (rw (we, chosen, ← measured, ← timed, ← mode, ← loading, e, ← asked, ← takes, ← logs, ← counts), rw e at reply)
+-- elapsed time that is accepted, by whether the window ends
+abbrev pub moved : Monitor → ℕ → Tick → Bool → Monitor
+moved m clock t expired =
+    record {
+      settings = m .settings;
+      timer = t .timer;
+      host = m .host;
+      partial = t .partial;
+      clock = clock;
+      loaded = cond expired noLoads (m .loaded);
+      debug = m .debug;
+      «static_window» = cond expired (m .«active_window») (m .«static_window»);
+      «active_window» = cond expired emptyWindow (m .«active_window»);
+    }
 
-    pub counted-kept :
-        load ≡ false →
-        (w : Window) →
-        w ≡ windowOf counters (m .«active_window» .stamps) (m .«active_window» .latencies) (m .«active_window» .units) →
-        (next (m .loaded) w ≡ afterCompletion m c) × (counted n false debug ≡ completionReply m c)
-    unfolding afterCompletion countedIn
-    counted-kept e w we =
-        (rw (we, chosen, ← measured, ← timed, ← mode, ← loading, e, ← asked, ← takes, ← logs, ← counts), rw e at reply)
-
--- elapsed time that is accepted
-module _ (m : Monitor) (ms : ℕ) (fits : ms ≤ 300000) (t : Tick) (clock : ℕ)
-    (ticks : t ≡ ticked (m .settings .enabled) (m .settings .«timer_threshold») (m .timer) (m .partial) ms)
-    (grows : clock ≡ grown (m .clock) ms) where
-  pub window-ended :
-      t .expired ≡ true →
-      (w : Window) →
-      w ≡ emptyWindow →
-      (_≡_ {A = Monitor}
-      (record {
-        settings = m .settings;
-        timer = t .timer;
-        host = m .host;
-        partial = t .partial;
-        clock = clock;
-        loaded = noLoads;
-        «active_window» = w;
-        «static_window» = m .«active_window»;
-        debug = m .debug;
-      })
-      (afterElapsed m ms)) ×
-      (ended true ≡ elapsedReply m ms)
-  unfolding afterElapsed elapsedReply elapsedRefusal
-  window-ended e w we = (rw (le-ltb _ _ fits, ← ticks, e, we, grows), rw (le-ltb _ _ fits, ← ticks, e))
-
-  pub window-active :
-      t .expired ≡ false →
-      (_≡_ {A = Monitor}
-      (record {
-        settings = m .settings;
-        timer = t .timer;
-        host = m .host;
-        partial = t .partial;
-        clock = clock;
-        loaded = m .loaded;
-        «active_window» = m .«active_window»;
-        «static_window» = m .«static_window»;
-        debug = m .debug;
-      })
-      (afterElapsed m ms)) ×
-      (ended false ≡ elapsedReply m ms)
-  unfolding afterElapsed elapsedReply elapsedRefusal
-  window-active e = (rw (le-ltb _ _ fits, ← ticks, e, grows), rw (le-ltb _ _ fits, ← ticks, e))
+pub elapsed-accepted :
+    (m : Monitor) (ms clock : ℕ) (t : Tick) →
+    ms ≤ 300000 →
+    t ≡ ticked (m .settings .enabled) (m .settings .«timer_threshold») (m .timer) (m .partial) ms →
+    clock ≡ grown (m .clock) ms →
+    (moved m clock t (t .expired) ≡ afterElapsed m ms) × (ended (t .expired) ≡ elapsedReply m ms)
+unfolding afterElapsed elapsedReply elapsedRefusal
+elapsed-accepted m ms clock t fits ticks grows =
+    (rw (le-ltb _ _ fits, ← ticks, grows), rw (le-ltb _ _ fits, ← ticks))

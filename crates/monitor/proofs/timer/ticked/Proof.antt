@@ -11,12 +11,15 @@ add-sum c = search needs
 cast-if2 : tie.Need-cast-if2
 cast-if2 c = search needs
 
-cast-t13 : tie.Need-cast-t13
-cast-t13 c = search needs
+cast-of : tie.Need-cast-of
+cast-of c = search needs
+
+of-requires : tie.Need-of-requires
+of-requires c κs = search needs
 
 returns : tie.Need-returns
 unfolding ticked
-returns c = simp (c .before .if1 .taken, lt-ltb _ _ (c .if2 .taken))
+returns c = rw (c .before .before .if1 .taken, lt-ltb _ _ (c .before .if2 .taken)) (c .of .ensures)
 
 cast-rest : tie.Need-cast-rest
 cast-rest c = search needs
@@ -30,20 +33,33 @@ cast-rest-2 c = search needs
 add-next : tie.Need-add-next
 add-next c = search needs
 
-cast-t15 : tie.Need-cast-t15
-cast-t15 c = search needs
+cast-of-2 : tie.Need-cast-of-2
+cast-of-2 c = search needs
+
+of-requires-2 : tie.Need-of-requires-2
+of-requires-2 c κs = search needs
 
 returns-2 : tie.Need-returns-2
 unfolding ticked
-returns-2 c = simp (c .before .before .if1 .taken, le-ltb _ _ (c .before .if2 .left), lt-leb _ _ (c .if3 .taken))
+returns-2 c =
+    rw (c .before .before .before .if1 .taken, le-ltb _ _ (c .before .before .if2 .left), lt-leb _ _ (c .before .if3 .taken))
+    (c .of2 .ensures)
+
+of-requires-3 : tie.Need-of-requires-3
+of-requires-3 c κs = search needs
 
 returns-3 : tie.Need-returns-3
 unfolding ticked
-returns-3 c = simp (c .before .before .if1 .taken, le-ltb _ _ (c .before .if2 .left), le-leb _ _ (c .if3 .left))
+returns-3 c =
+    rw (c .before .before .before .if1 .taken, le-ltb _ _ (c .before .before .if2 .left), le-leb _ _ (c .before .if3 .left))
+    (c .of3 .ensures)
+
+of-requires-4 : tie.Need-of-requires-4
+of-requires-4 c κs = search needs
 
 returns-4 : tie.Need-returns-4
 unfolding ticked
-returns-4 c = simp (c .if1 .left)
+returns-4 c = rw (c .before .if1 .left) (c .of4 .ensures)
 
 pub ticked-spec : {M : Type 1} → statement M
 ticked-spec =
@@ -51,13 +67,17 @@ ticked-spec =
     (tie.spec
     add-sum
     cast-if2
-    cast-t13
+    cast-of
+    of-requires
     returns
     cast-rest
     sub-rest
     cast-rest-2
     add-next
-    cast-t15
+    cast-of-2
+    of-requires-2
     returns-2
+    of-requires-3
     returns-3
+    of-requires-4
     returns-4)

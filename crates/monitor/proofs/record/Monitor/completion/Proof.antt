@@ -1,5 +1,5 @@
 -- `Monitor::completion`: counted with the stamp loaded; counted with it kept; not counted.
-use Rattle.monitor.proofs.record.Laws.{not-counted, counted-loaded, counted-kept}
+use Rattle.monitor.proofs.record.Laws.{not-counted, Decided, decide}
 use borrow.Author.Needs.{needs}
 use Rattle.monitor.proofs.record.Monitor.completion.Statement.{statement}
 use Rattle.monitor.proofs.record.Monitor.completion.Tie as tie
@@ -79,37 +79,40 @@ of-requires c κs = search needs
 of-requires-2 : tie.Need-of-requires-2
 of-requires-2 c κs = search needs
 
+-- every value on the way is what its definition says
+decided :
+    (c : tie.After-loads) →
+    Decided (c .before .before .before .before .before .before .before .before .before .before .before .before .before .before .args .self) (c .before .before .before .before .before .before .before .before .before .before .before .before .before .before .args .c) (c .before .before .before .before .before .before .before .before .before .before .before .before .before .counter .result)
+    (c .before .before .before .before .before .before .before .before .before .before .before .milliseconds .result)
+    (c .before .before .before .before .before .before .before .before .before .before .in-window .result)
+    (c .before .before .before .before .before .before .before .logged .result)
+    (c .before .before .before .before .before .counted-at .result)
+    (c .before .before .before .before .before .before .before .before .triggers .result)
+    (c .loads .result)
+decided c =
+    decide _ _ _ _ _ _ _ _ _ _ _
+    (c .before .before .before .before .before .before .before .before .before .before .before .before .before .counter .ensures)
+    (c .before .before .before .before .before .before .before .before .before .before .before .before .if1 .taken)
+    (c .before .before .before .before .before .before .before .before .before .before .before .milliseconds .ensures)
+    (c .before .before .before .before .before .before .before .before .before .before .in-window .ensures)
+    (c .before .before .before .before .before .before .before .before .before .bit .ensures)
+    (c .before .before .before .before .before .before .before .before .triggers .ensures)
+    (c .before .before .before .before .before .before .before .logged .ensures)
+    (c .before .before .before .before .before .counted-at .ensures)
+    (c .before .bit2 .ensures)
+    (c .loads .ensures)
+
 returns : tie.Need-returns
 returns c =
-    counted-loaded _ _ _ (c .before .before .before .before .before .before .before .before .before .before .before .before .before .before .before .before .counter .ensures)
-    (c .before .before .before .before .before .before .before .before .before .before .before .before .before .before .before .if1 .taken) _ _ _ _ _ _ _ _
-    (c .before .before .before .before .before .before .before .before .before .before .before .before .before .before .milliseconds .ensures)
-    (c .before .before .before .before .before .before .before .before .before .before .before .before .before .in-window .ensures)
-    (c .before .before .before .before .before .before .before .before .before .before .before .before .bit .ensures)
-    (c .before .before .before .before .before .before .before .before .before .before .before .triggers .ensures)
-    (c .before .before .before .before .before .before .before .before .before .before .logged .ensures)
-    (c .before .before .before .before .before .before .before .before .counted-at .ensures)
-    (c .before .before .before .before .bit2 .ensures)
-    (c .before .before .before .loads .ensures)
-    (c .before .before .if2 .taken)
-    _
-    (c .of .ensures)
+    let d = decided (c .before .before .before) in
+    let loaded = c .before .before .if2 .taken in
+    (rw (c .of .ensures) (rw loaded at (d .next)), rw loaded at (d .reply))
 
 returns-2 : tie.Need-returns-2
 returns-2 c =
-    counted-kept _ _ _ (c .before .before .before .before .before .before .before .before .before .before .before .before .before .before .before .before .before .before .counter .ensures)
-    (c .before .before .before .before .before .before .before .before .before .before .before .before .before .before .before .before .before .if1 .taken) _ _ _ _ _ _ _ _
-    (c .before .before .before .before .before .before .before .before .before .before .before .before .before .before .before .before .milliseconds .ensures)
-    (c .before .before .before .before .before .before .before .before .before .before .before .before .before .before .before .in-window .ensures)
-    (c .before .before .before .before .before .before .before .before .before .before .before .before .before .before .bit .ensures)
-    (c .before .before .before .before .before .before .before .before .before .before .before .before .before .triggers .ensures)
-    (c .before .before .before .before .before .before .before .before .before .before .before .before .logged .ensures)
-    (c .before .before .before .before .before .before .before .before .before .before .counted-at .ensures)
-    (c .before .before .before .before .before .before .bit2 .ensures)
-    (c .before .before .before .before .before .loads .ensures)
-    (c .before .before .before .before .if2 .left)
-    _
-    (c .of2 .ensures)
+    let d = decided (c .before .before .before .before .before) in
+    let kept = c .before .before .before .before .if2 .left in
+    (rw (c .of2 .ensures) (rw kept at (d .next)), rw kept at (d .reply))
 
 returns-3 : tie.Need-returns-3
 returns-3 c = not-counted _ _ _ (c .before .counter .ensures) (c .if1 .left)

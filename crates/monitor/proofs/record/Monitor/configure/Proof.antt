@@ -5,7 +5,7 @@ use native.Mathlib.Omega.{arith}
 use Rattle.monitor.specs.Answers.{saysAnswer}
 use Rattle.monitor.specs.Refusals.{settingsRefusal}
 use Rattle.monitor.proofs.settings.Laws.{not-refused, accepted-length}
-use Rattle.monitor.proofs.record.Laws.{settings-refused, configured-on, configured-off}
+use Rattle.monitor.proofs.record.Laws.{settings-refused, settings-accepted}
 use borrow.Author.Needs.{needs}
 use Rattle.monitor.proofs.record.Monitor.configure.Statement.{statement}
 use Rattle.monitor.proofs.record.Monitor.configure.Tie as tie
@@ -27,7 +27,7 @@ decode-requires : tie.Need-decode-requires
 decode-requires c κs = omega (arith, accepted-length _ (accepted c))
 
 shared-slice-read-after-discard : tie.Need-shared-slice-read-after-discard
-shared-slice-read-after-discard c = omega (arith, accepted-length _ (accepted (c .before .before .before)))
+shared-slice-read-after-discard c = omega (arith, accepted-length _ (accepted (c .before .before)))
 
 after-discard-requires : tie.Need-after-discard-requires
 after-discard-requires c κs = search needs
@@ -41,11 +41,18 @@ returns c =
 
 returns-2 : tie.Need-returns-2
 returns-2 c =
-    configured-on _ _ (accepted (c .before .before .before .before .before .before .before)) _ _ (c .before .before .before .before .before .before .decode .ensures) (c .before .before .before .after-discard .ensures) (c .before .before .if1 .taken) _ (c .before .empty .ensures)
+    rw (c .before .empty .ensures)
+    (settings-accepted _ _ _ _ _ (accepted (c .before .before .before .before .before .before))
+    (c .before .before .before .before .before .decode .ensures)
+    (c .before .before .before .after-discard .ensures)
+    (c .before .before .if1 .taken))
 
 returns-3 : tie.Need-returns-3
 returns-3 c =
-    configured-off _ _ (accepted (c .before .before .before .before .before)) _ _ (c .before .before .before .before .decode .ensures) (c .before .after-discard .ensures) (c .if1 .left)
+    settings-accepted _ _ _ _ _ (accepted (c .before .before .before .before))
+    (c .before .before .before .decode .ensures)
+    (c .before .after-discard .ensures)
+    (c .if1 .left)
 
 pub configure-spec : {M : Type 1} → statement M
 configure-spec =

@@ -1,7 +1,7 @@
 -- `Monitor::elapsed`: the window ends; it goes on; turned away by row 7.
 use borrow.Author.Tests.{lt-ltb}
 use Rattle.monitor.specs.Refusals.{elapsedRefusal}
-use Rattle.monitor.proofs.record.Laws.{window-ended, window-active}
+use Rattle.monitor.proofs.record.Laws.{elapsed-accepted}
 use Rattle.monitor.specs.Record.{afterElapsed, elapsedReply}
 use borrow.Author.Needs.{needs}
 use Rattle.monitor.proofs.record.Monitor.elapsed.Statement.{statement}
@@ -18,10 +18,21 @@ empty-requires c κs = search needs
 
 returns : tie.Need-returns
 returns c =
-    window-ended _ _ (c .before .before .before .before .before .before .if1 .taken) _ _ (c .before .before .before .before .before .ticked .ensures) (c .before .before .before .before .grown .ensures) (c .before .before .before .if2 .taken) _ (c .before .empty .ensures)
+    let d =
+    elapsed-accepted (c .before .before .before .before .before .before .before .args .self) _ _ _ (c .before .before .before .before .before .before .if1 .taken)
+    (c .before .before .before .before .before .ticked .ensures)
+    (c .before .before .before .before .grown .ensures)
+    in
+    let ends = c .before .before .before .if2 .taken in
+    (rw (c .before .empty .ensures) (rw ends at (d .0)), rw ends at (d .1))
 
 returns-2 : tie.Need-returns-2
-returns-2 c = window-active _ _ (c .before .before .before .if1 .taken) _ _ (c .before .before .ticked .ensures) (c .before .grown .ensures) (c .if2 .left)
+returns-2 c =
+    let d =
+    elapsed-accepted (c .before .before .before .before .args .self) _ _ _ (c .before .before .before .if1 .taken)
+    (c .before .before .ticked .ensures) (c .before .grown .ensures)
+    in
+    (rw (c .if2 .left) at (d .0), rw (c .if2 .left) at (d .1))
 
 returns-3 : tie.Need-returns-3
 unfolding afterElapsed elapsedReply elapsedRefusal
