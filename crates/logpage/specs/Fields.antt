@@ -23,6 +23,7 @@ noSettings =
       enabled = false;
     }
 
+-- the window of these arrays
 abbrev pub windowOf : List ℕ → List ℕ → List ℕ → List Bool → Window
 windowOf counters stamps latencies units =
     record { counters = counters; stamps = stamps; latencies = latencies; units = units }
@@ -31,8 +32,8 @@ windowOf counters stamps latencies units =
 unfoldable pub emptyWindow : Window
 emptyWindow =
     record {
-      stamps = replicate 12 unset;
       counters = replicate 12 0;
+      stamps = replicate 12 unset;
       latencies = replicate 12 0;
       units = replicate 12 false;
     }
