@@ -3,7 +3,8 @@ ghost use mathlib.Core.Path.{_≡_};
 ghost use mathlib.Core.Option.{some};
 ghost use Prim.Native.Nat.{_<_};
 ghost use lib.Dec.{ltb};
-ghost use Rattle.monitor.specs.Commands.{kindOf, bucketOf, counterAt, counterOf, latencyOf, saysKind, saysBucket, saysCounter};
+ghost use Rattle.monitor.specs.Commands.{kindOf, bucketOf, counterAt, counterOf, latencyOf};
+ghost use Rattle.monitor.specs.Commands.{saysKind, saysBucket, saysCounter};
 use logpage::Settings;
 
 // What a completion brings.

@@ -35,7 +35,9 @@ module _ (thresholds : List ℕ) (us increments : ℕ) (e : us / 5000 ≡ increm
   pub hit : ltb (getD thresholds (n - 1) 0) increments ≡ true → highestBelow thresholds us n ≡ some (n - 1)
   hit t = rw (down n p, le-leb _ _ (reached us (getD thresholds (n - 1) 0) (omega (arith, ltb-true _ increments t))))
 
-  pub miss : ltb (getD thresholds (n - 1) 0) increments ≡ false → highestBelow thresholds us n ≡ highestBelow thresholds us (n - 1)
+  pub miss :
+      ltb (getD thresholds (n - 1) 0) increments ≡ false →
+      highestBelow thresholds us n ≡ highestBelow thresholds us (n - 1)
   miss t = rw (down n p, lt-leb _ _ (passed us (getD thresholds (n - 1) 0) (omega (arith, ltb-false _ increments t))))
 
 pub nothing : (thresholds : List ℕ) (us : ℕ) → highestBelow thresholds us 0 ≡ none

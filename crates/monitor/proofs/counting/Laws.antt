@@ -17,7 +17,11 @@ one b = cond b 1 0
 
 -- one more, unless the counter is at its top
 module _ (counter : ℕ) where
-  counts-by : (here : Bool) (t : Bool) → ltb counter 4294967295 ≡ t → counter < 4294967296 → counter + one here * one t ≡ cond here (onceMore counter) counter
+  counts-by :
+      (here t : Bool) →
+      ltb counter 4294967295 ≡ t →
+      counter < 4294967296 →
+      counter + one here * one t ≡ cond here (onceMore counter) counter
   counts-by true true e h = omega (arith, ltb-true counter 4294967295 e)
   counts-by true false e h = omega (arith, ltb-false counter 4294967295 e)
   counts-by false t e h = omega (arith, zero-mul (one t))

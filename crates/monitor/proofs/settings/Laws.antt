@@ -21,7 +21,7 @@ not-refused none e = refl
 not-refused (some n) e = cc
 
 pub refused-by : (r : Option ℕ) (n : ℕ) → refused n ≡ unlessRefused r done → r ≡ some n
-refused-by none n e = let z : _≡_ {A = ℕ} 0 1 = cc in absurd (omega arith)
+refused-by none n e = let never : _≡_ {A = ℕ} 0 1 = cc in absurd (omega arith)
 refused-by (some k) n e = cc
 
 -- accepted settings are 4,096 bytes
@@ -31,7 +31,9 @@ accepted-length s e = by (eqb (length s) 4096) refl
   where
     by : (t : Bool) → eqb (length s) 4096 ≡ t → length s ≡ 4096
     by true h = eqb-true (length s) 4096 h
-    by false h = let z : _≡_ {A = Option ℕ} (some 1) none = rw (h, settingsRefusal) at e in let y : _≡_ {A = ℕ} 0 1 = cc in absurd (omega arith)
+    by false h =
+        let refused-at : _≡_ {A = Option ℕ} (some 1) none = rw (h, settingsRefusal) at e in
+        let never : _≡_ {A = ℕ} 0 1 = cc in absurd (omega arith)
 
 module _ (s : List ℕ) where
   pub length-refused : (length s ≡ 4096 → ⊥) → refused 1 ≡ unlessRefused (settingsRefusal s) done
@@ -43,30 +45,42 @@ module _ (s : List ℕ) where
     unfolding settingsRefusal
     reserved-refused used = rw (eq-eqb (length s) 4096 whole, used)
 
-    pub fields-decide : anySet (drop 13 s) ≡ false → unlessRefused (fieldRefusal (discardOf s) (enableOf s) (decoded s)) done ≡ unlessRefused (settingsRefusal s) done
+    pub fields-decide :
+        anySet (drop 13 s) ≡ false →
+        unlessRefused (fieldRefusal (discardOf s) (enableOf s) (decoded s)) done ≡ unlessRefused (settingsRefusal s) done
     unfolding settingsRefusal
     fields-decide clear = rw (eq-eqb (length s) 4096 whole, clear)
 
 module _ (discard enable : ℕ) (s : Settings) where
-  pub flags-refused : eitherAbove 1 discard enable ≡ true → refused 3 ≡ unlessRefused (fieldRefusal discard enable s) done
+  pub flags-refused :
+      eitherAbove 1 discard enable ≡ true →
+      refused 3 ≡ unlessRefused (fieldRefusal discard enable s) done
   unfolding fieldRefusal
   flags-refused above = rw above
 
   module _ (flags : eitherAbove 1 discard enable ≡ false) where
-    pub timer-refused : s .«timer_threshold» ≡ 0 → refused 4 ≡ unlessRefused (fieldRefusal discard enable s) done
+    pub timer-refused :
+        s .«timer_threshold» ≡ 0 →
+        refused 4 ≡ unlessRefused (fieldRefusal discard enable s) done
     unfolding fieldRefusal
     timer-refused zero = rw (flags, eq-eqb (s .«timer_threshold») 0 zero)
 
     module _ (timed : s .«timer_threshold» ≡ 0 → ⊥) where
-      pub order-refused : unordered (s .thresholds) ≡ true → refused 5 ≡ unlessRefused (fieldRefusal discard enable s) done
+      pub order-refused :
+          unordered (s .thresholds) ≡ true →
+          refused 5 ≡ unlessRefused (fieldRefusal discard enable s) done
       unfolding fieldRefusal
       order-refused above = rw (flags, ne-eqb (s .«timer_threshold») 0 timed, above)
 
       module _ (order : unordered (s .thresholds) ≡ false) where
-        pub bits-refused : eitherAbove 4095 (s .mode) (s .trigger) ≡ true → refused 6 ≡ unlessRefused (fieldRefusal discard enable s) done
+        pub bits-refused :
+            eitherAbove 4095 (s .mode) (s .trigger) ≡ true →
+            refused 6 ≡ unlessRefused (fieldRefusal discard enable s) done
         unfolding fieldRefusal
         bits-refused above = rw (flags, ne-eqb (s .«timer_threshold») 0 timed, order, above)
 
-        pub fields-accepted : eitherAbove 4095 (s .mode) (s .trigger) ≡ false → done ≡ unlessRefused (fieldRefusal discard enable s) done
+        pub fields-accepted :
+            eitherAbove 4095 (s .mode) (s .trigger) ≡ false →
+            done ≡ unlessRefused (fieldRefusal discard enable s) done
         unfolding fieldRefusal
         fields-accepted clear = rw (flags, ne-eqb (s .«timer_threshold») 0 timed, order, clear)

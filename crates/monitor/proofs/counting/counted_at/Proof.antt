@@ -42,15 +42,16 @@ loop-less : tie.Need-loop-less Inv-loop μ-loop
 loop-less c = search needs
 
 loop-again : tie.Need-loop-again Inv-loop μ-loop
-loop-again c = (
-  search needs,
-  rw (c .counted-if .ensures)
-      (write-more onceMore (c .before .before .before .args .t1) (c .before .before .before .args .n) _ _ (c .before .before .loop .inv .1)),
-)
+loop-again c =
+    let a = c .before .before .before .args in (
+      search needs,
+      rw (c .counted-if .ensures) (write-more onceMore (a .t1) (a .n) _ _ (c .before .before .loop .inv .1)),
+    )
 
 returns : tie.Need-returns Inv-loop μ-loop
 returns c =
-    c .before .loop .inv .1 ∙ all-written onceMore (c .before .before .args .t1) (c .before .before .args .n) (c .before .loop .i) (omega arith)
+    let a = c .before .before .args in
+    c .before .loop .inv .1 ∙ all-written onceMore (a .t1) (a .n) (c .before .loop .i) (omega arith)
 
 pub counted-at-spec : {M : Type 1} → statement M
 counted-at-spec =

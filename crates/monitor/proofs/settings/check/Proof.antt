@@ -42,7 +42,9 @@ returns-2 : tie.Need-returns-2
 returns-2 c = reserved-refused _ (search needs) (rw (← part-to-end _ 13) (sym (c .before .any-set .ensures) ∙ c .if2 .taken))
 
 returns-3 : tie.Need-returns-3
-returns-3 c = c .check-fields .ensures ∙ (rw (c .before .decode .ensures) (fields-decide _ (search needs) (rw (← part-to-end _ 13) (sym (c .before .before .before .before .before .any-set .ensures) ∙ c .before .before .before .before .if2 .left))))
+returns-3 c =
+    let clear = sym (c .before .before .before .before .before .any-set .ensures) ∙ c .before .before .before .before .if2 .left in
+    c .check-fields .ensures ∙ (rw (c .before .decode .ensures) (fields-decide _ (search needs) (rw (← part-to-end _ 13) clear)))
 
 pub check-spec : {M : Type 1} → statement M
 check-spec =

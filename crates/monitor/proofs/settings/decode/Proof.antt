@@ -51,7 +51,9 @@ shared-slice-read-t29 c = search needs
 
 returns : tie.Need-returns
 unfolding decoded
-returns c = simp (c .before .before .before .before .before .before .word3 .ensures, c .before .before .before .before .before .before .before .before .before .word2 .ensures, c .before .before .before .before .before .before .before .before .before .before .before .before .word .ensures)
+returns c =
+    let w = c .before .before .before .before .before .before in
+    simp (w .word3 .ensures, w .before .before .before .word2 .ensures, w .before .before .before .before .before .before .word .ensures)
 
 pub decode-spec : {M : Type 1} → statement M
 decode-spec =

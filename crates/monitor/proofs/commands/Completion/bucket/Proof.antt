@@ -34,10 +34,10 @@ loop-less : tie.Need-loop-less Inv-loop μ-loop
 loop-less c = search needs
 
 loop-again : tie.Need-loop-again Inv-loop μ-loop
-loop-again c = (
-  search needs,
-  λ us e. sym (miss _ us _ e (c .before .before .before .loop .b) (search needs) (sym (c .before .reaches .ensures) ∙ c .if2 .left)) ∙ c .before .before .before .loop .inv .1 us e,
-)
+loop-again c =
+    let l = c .before .before .before .loop in
+    let not-reached = sym (c .before .reaches .ensures) ∙ c .if2 .left in
+    (search needs, λ us e. sym (miss _ us _ e (l .b) (search needs) not-reached) ∙ l .inv .1 us e)
 
 returns : tie.Need-returns Inv-loop μ-loop
 unfolding bucketOf
@@ -46,7 +46,9 @@ returns c = sym (nothing _ _) ∙ (rw (c .if1 .taken) at (c .before .loop .inv .
 returns-2 : tie.Need-returns-2 Inv-loop μ-loop
 unfolding bucketOf
 returns-2 c =
-    sym (hit _ _ _ refl (c .before .before .before .loop .b) (search needs) (sym (c .before .reaches .ensures) ∙ c .if2 .taken)) ∙ c .before .before .before .loop .inv .1 _ refl
+    let l = c .before .before .before .loop in
+    let reached = sym (c .before .reaches .ensures) ∙ c .if2 .taken in
+    sym (hit _ _ _ refl (l .b) (search needs) reached) ∙ l .inv .1 _ refl
 
 pub bucket-spec : {M : Type 1} → statement M
 bucket-spec =

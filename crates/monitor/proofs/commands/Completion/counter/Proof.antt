@@ -25,13 +25,15 @@ enum-told c = search needs
 returns : tie.Need-returns
 unfolding counterOf
 returns c =
-    rw (c .before .before .before .before .before .before .before .if1 .taken, sym (c .before .before .before .before .before .bucket .ensures) ∙ ap saysBucket (c .before .before .before .b .given .1), ← c .before .kind .ensures)
+    let in-bucket = sym (c .before .before .before .before .before .bucket .ensures) ∙ ap saysBucket (c .before .before .before .b .given .1) in
+    rw (c .before .before .before .before .before .before .before .if1 .taken, in-bucket, ← c .before .kind .ensures)
     (c .counter-at .ensures)
 
 returns-2 : tie.Need-returns-2
 unfolding counterOf
 returns-2 c =
-    rw (c .before .before .before .before .if1 .taken, sym (c .before .before .bucket .ensures) ∙ ap saysBucket (c .enum-told .given .1))
+    let below = sym (c .before .before .bucket .ensures) ∙ ap saysBucket (c .enum-told .given .1) in
+    rw (c .before .before .before .before .if1 .taken, below)
 
 returns-3 : tie.Need-returns-3
 unfolding counterOf

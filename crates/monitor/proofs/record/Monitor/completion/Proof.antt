@@ -1,4 +1,6 @@
 -- `Monitor::completion`: counted with the stamp loaded; counted with it kept; not counted.
+use mathlib.Core.Path.{_≡_, sym, _∙_}
+use mathlib.Core.Bool.{Bool, true, false}
 use Rattle.monitor.proofs.record.Laws.{not-counted, Decided, decide}
 use borrow.Author.Needs.{needs}
 use Rattle.monitor.proofs.record.Monitor.completion.Statement.{statement}
@@ -79,40 +81,50 @@ of-requires c κs = search needs
 of-requires-2 : tie.Need-of-requires-2
 of-requires-2 c κs = search needs
 
+-- the places on the way to the decision, the latest first
+abbrev at-counted : tie.After-loads → tie.After-counted-at
+at-counted c = c .before .before .before .before .before
+
+abbrev at-triggers : tie.After-loads → tie.After-triggers
+at-triggers c = at-counted c .before .before .before
+
+abbrev at-milliseconds : tie.After-loads → tie.After-milliseconds
+at-milliseconds c = at-triggers c .before .before .before
+
+abbrev at-counter : tie.After-loads → tie.After-counter
+at-counter c = at-milliseconds c .before .before
+
 -- every value on the way is what its definition says
 decided :
-    (c : tie.After-loads) →
-    Decided (c .before .before .before .before .before .before .before .before .before .before .before .before .before .before .args .self) (c .before .before .before .before .before .before .before .before .before .before .before .before .before .before .args .c) (c .before .before .before .before .before .before .before .before .before .before .before .before .before .counter .result)
-    (c .before .before .before .before .before .before .before .before .before .before .before .milliseconds .result)
-    (c .before .before .before .before .before .before .before .before .before .before .in-window .result)
-    (c .before .before .before .before .before .before .before .logged .result)
-    (c .before .before .before .before .before .counted-at .result)
-    (c .before .before .before .before .before .before .before .before .triggers .result)
-    (c .loads .result)
-decided c =
-    decide _ _ _ _ _ _ _ _ _ _ _
-    (c .before .before .before .before .before .before .before .before .before .before .before .before .before .counter .ensures)
-    (c .before .before .before .before .before .before .before .before .before .before .before .before .if1 .taken)
-    (c .before .before .before .before .before .before .before .before .before .before .before .milliseconds .ensures)
-    (c .before .before .before .before .before .before .before .before .before .before .in-window .ensures)
-    (c .before .before .before .before .before .before .before .before .before .bit .ensures)
-    (c .before .before .before .before .before .before .before .before .triggers .ensures)
-    (c .before .before .before .before .before .before .before .logged .ensures)
-    (c .before .before .before .before .before .counted-at .ensures)
+    (c : tie.After-loads) (load : Bool) →
+    c .loads .result ≡ load →
+    Decided (at-counter c .before .args .self) (at-counter c .before .args .c) (at-counter c .counter .result)
+    (at-milliseconds c .milliseconds .result)
+    (at-triggers c .before .before .in-window .result)
+    (at-counted c .before .before .logged .result)
+    (at-counted c .counted-at .result)
+    (at-triggers c .triggers .result)
+    load
+decided c load e =
+    decide _ _ _ _ _ _ _ _ _ _ _ (at-counter c .counter .ensures) (at-milliseconds c .before .if1 .taken)
+    (at-milliseconds c .milliseconds .ensures)
+    (at-triggers c .before .before .in-window .ensures)
+    (at-triggers c .before .bit .ensures)
+    (at-triggers c .triggers .ensures)
+    (at-counted c .before .before .logged .ensures)
+    (at-counted c .counted-at .ensures)
     (c .before .bit2 .ensures)
-    (c .loads .ensures)
+    (sym e ∙ c .loads .ensures)
 
 returns : tie.Need-returns
 returns c =
-    let d = decided (c .before .before .before) in
-    let loaded = c .before .before .if2 .taken in
-    (rw (c .of .ensures) (rw loaded at (d .next)), rw loaded at (d .reply))
+    let d = decided (c .before .before .before) true (c .before .before .if2 .taken) in
+    (rw (c .of .ensures) (d .next), d .reply)
 
 returns-2 : tie.Need-returns-2
 returns-2 c =
-    let d = decided (c .before .before .before .before .before) in
-    let kept = c .before .before .before .before .if2 .left in
-    (rw (c .of2 .ensures) (rw kept at (d .next)), rw kept at (d .reply))
+    let d = decided (c .before .before .before .before .before) false (c .before .before .before .before .if2 .left) in
+    (rw (c .of2 .ensures) (d .next), d .reply)
 
 returns-3 : tie.Need-returns-3
 returns-3 c = not-counted _ _ _ (c .before .counter .ensures) (c .if1 .left)
