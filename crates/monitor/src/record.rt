@@ -16,8 +16,7 @@ use logpage::DebugLog;
 use logpage::Settings;
 use logpage::Window;
 
-// What the firmware keeps. The two windows stand last, and no padding stands before an array: calls that leave them
-// alone then do not copy them (docs/DECISIONS.md, 'The order of the record').
+// What the firmware keeps. The order of the fields keeps calls cheap (docs/DECISIONS.md, 'Shape for speed').
 #[repr(C)]
 pub struct Monitor {
     pub settings: Settings,

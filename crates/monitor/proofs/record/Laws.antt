@@ -130,11 +130,12 @@ moved m clock t expired =
     }
 
 pub elapsed-accepted :
-    (m : Monitor) (ms clock : ℕ) (t : Tick) →
+    (m : Monitor) (ms clock : ℕ) (t : Tick) (expired : Bool) →
     ms ≤ 300000 →
     t ≡ ticked (m .settings .enabled) (m .settings .«timer_threshold») (m .timer) (m .partial) ms →
     clock ≡ grown (m .clock) ms →
-    (moved m clock t (t .expired) ≡ afterElapsed m ms) × (ended (t .expired) ≡ elapsedReply m ms)
+    t .expired ≡ expired →
+    (moved m clock t expired ≡ afterElapsed m ms) × (ended expired ≡ elapsedReply m ms)
 unfolding afterElapsed elapsedReply elapsedRefusal
-elapsed-accepted m ms clock t fits ticks grows =
-    (rw (le-ltb _ _ fits, ← ticks, grows), rw (le-ltb _ _ fits, ← ticks))
+elapsed-accepted m ms clock t expired fits ticks grows ends =
+    (rw (le-ltb _ _ fits, ← ticks, ← ends, grows), rw (le-ltb _ _ fits, ← ticks, ends))

@@ -18,21 +18,14 @@ empty-requires c κs = search needs
 
 returns : tie.Need-returns
 returns c =
-    let d =
-    elapsed-accepted (c .before .before .before .before .before .before .before .args .self) _ _ _ (c .before .before .before .before .before .before .if1 .taken)
-    (c .before .before .before .before .before .ticked .ensures)
-    (c .before .before .before .before .grown .ensures)
-    in
-    let ends = c .before .before .before .if2 .taken in
-    (rw (c .before .empty .ensures) (rw ends at (d .0)), rw ends at (d .1))
+    let t = c .before .before .before .before .before in
+    rw (c .before .empty .ensures)
+    (elapsed-accepted _ _ _ _ _ (t .before .if1 .taken) (t .ticked .ensures) (c .before .before .before .before .grown .ensures) (c .before .before .before .if2 .taken))
 
 returns-2 : tie.Need-returns-2
 returns-2 c =
-    let d =
-    elapsed-accepted (c .before .before .before .before .args .self) _ _ _ (c .before .before .before .if1 .taken)
-    (c .before .before .ticked .ensures) (c .before .grown .ensures)
-    in
-    (rw (c .if2 .left) at (d .0), rw (c .if2 .left) at (d .1))
+    let t = c .before .before in
+    elapsed-accepted _ _ _ _ _ (t .before .if1 .taken) (t .ticked .ensures) (c .before .grown .ensures) (c .if2 .left)
 
 returns-3 : tie.Need-returns-3
 unfolding afterElapsed elapsedReply elapsedRefusal
