@@ -4,7 +4,7 @@ use mathlib.Core.Bool.{Bool, false, not, _||_}
 use mathlib.Core.List.{List, [], _∷_}
 use lib.Dec.{eqb}
 
--- two bytes as a number, the lowest byte first
+-- Fields of several bytes have the lowest byte first.
 abbrev pub word : ℕ → ℕ → ℕ
 word low high = low + 256 * high
 

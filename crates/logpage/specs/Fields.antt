@@ -11,7 +11,7 @@ use Rattle.logpage.specs.declared.DebugLog.{DebugLog}
 abbrev pub unset : ℕ
 unset = 0xffff_ffff_ffff_ffff
 
--- A new monitor is disabled. All its settings are zero.
+-- the settings of a new monitor
 unfoldable pub noSettings : Settings
 noSettings =
     record {
@@ -38,6 +38,6 @@ emptyWindow =
       units = replicate 12 false;
     }
 
--- no debug record is held
+-- no debug record is held: its stamp is unset
 unfoldable pub noDebugLog : DebugLog
 noDebugLog = record { stamp = unset; latency = 0; source = 0; units = false }

@@ -14,7 +14,7 @@ pub struct Settings {
     pub mode: u16,
     // Debug Log Trigger Enable: bit n for counter n.
     pub trigger: u16,
-    // Active Thresholds A to D, in steps of 5 ms.
+    // Active Thresholds A to D: byte v means 5 x (v + 1) ms.
     pub thresholds: [u8; 4],
     // Active Latency Minimum Window, in units of 100 ms.
     pub minimum_window: u8,

@@ -25,6 +25,7 @@ abbrev pub unlessRefused : Option ℕ → Reply → Reply
 unlessRefused (some n) reply = refused n
 unlessRefused none reply = reply
 
+-- what each case of the code's answers says
 abbrev pub saysAnswer : Answer → Reply
 saysAnswer (Refused n) = refused n
 saysAnswer Done = done

@@ -19,6 +19,7 @@ saysKind Write = some 1
 saysKind Deallocate = some 2
 saysKind Other = none
 
+-- A bucket is 0 to 3.
 abbrev pub saysBucket : Bucket → Option ℕ
 saysBucket (bucket.At b) = some b
 saysBucket bucket.Below = none
@@ -47,7 +48,7 @@ highestBelow thresholds us (suc b) = cond (reaches us (getD thresholds b 0)) (so
 unfoldable pub bucketOf : List ℕ → Completion → Option ℕ
 bucketOf thresholds c = highestBelow thresholds (c .latency) 4
 
--- A pair is a bucket and a kind; its pair number is 3 × bucket + kind.
+-- A pair is a bucket and a kind; its pair number is 3 × bucket + kind, 0 to 11.
 abbrev pub counterAt : Option ℕ → Option ℕ → Option ℕ
 counterAt (some b) (some k) = some (3 * b + k)
 counterAt (some b) none = none
@@ -58,5 +59,5 @@ unfoldable pub counterOf : Settings → Completion → Option ℕ
 counterOf s c = cond (s .enabled) (counterAt (bucketOf (s .thresholds) c) (kindOf c)) none
 
 -- The latency in whole ms is rounded down and held at 65,535.
-unfoldable pub latencyOf : Completion → ℕ
-latencyOf c = min (c .latency / 1000) 65535
+unfoldable pub millisecondsOf : Completion → ℕ
+millisecondsOf c = min (c .latency / 1000) 65535

@@ -16,12 +16,12 @@ abbrev pub onceMore : ℕ → ℕ
 onceMore counter = min (counter + 1) 4294967295
 
 -- The stamp is loaded if it is unset; or if the pair's mode is largest, this latency in ms is strictly larger than the
--- shown one, and the time since the pair's last load is at least 100 × the minimum window.
+-- shown one, and the sum of elapsed time since the pair's last load is at least 100 × the minimum window; 0 means none.
 unfoldable pub loads : (stamp latency since ms : ℕ) (largest : Bool) (minimum : ℕ) → Bool
 loads stamp latency since ms largest minimum =
     eqb stamp unset || (largest && (ltb latency ms && leb (100 * minimum) since))
 
--- The count grows. Loading sets the stamp to the clock, the shown latency to this latency in ms, and the mark to 1 if
+-- the window after it; loading sets the stamp to the clock, the shown latency to this latency in ms, and the mark to 1 if
 -- the clock is host-set, else 0.
 unfoldable pub countedIn : Bool → (n clock ms : ℕ) (host : Bool) → Window → Window
 countedIn load n clock ms host w =
@@ -32,10 +32,11 @@ countedIn load n clock ms host w =
       units = cond load (set (w .units) n host) (w .units);
     }
 
--- A debug record is taken if the pair's trigger bit is 1 and no debug record is held.
-unfoldable pub triggers : (trigger : Bool) (held : ℕ) → Bool
-triggers trigger held = trigger && eqb held unset
+-- If the pair's trigger bit is 1 and no debug record is held, one is taken; held: its stamp is set. A count already at
+-- its top triggers all the same.
+unfoldable pub triggers : (trigger : Bool) (stamp : ℕ) → Bool
+triggers trigger stamp = trigger && eqb stamp unset
 
--- The debug record: ms, clock, clock mark and the pair as one set bit.
+-- the debug record: ms, clock, clock mark and the pair as one set bit.
 abbrev pub debugLog : (n clock ms : ℕ) (host : Bool) → DebugLog
 debugLog n clock ms host = record { stamp = clock; latency = ms; source = 2 ^ n; units = host }

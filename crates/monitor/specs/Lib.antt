@@ -1,7 +1,7 @@
-pub mod Answers
 pub mod Settings
-pub mod Refusals
 pub mod Commands
 pub mod Counting
 pub mod Timer
+pub mod Refusals
+pub mod Answers
 pub mod Record

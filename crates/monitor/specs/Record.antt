@@ -10,7 +10,7 @@ use Rattle.monitor.specs.declared.commands.Completion.{Completion}
 use Rattle.monitor.specs.declared.record.Monitor.{Monitor}
 use Rattle.monitor.specs.declared.timer.Tick.{Tick}
 use Rattle.monitor.specs.Answers.{Reply, done, notCounted, counted, ended, unlessRefused}
-use Rattle.monitor.specs.Commands.{counterOf, latencyOf}
+use Rattle.monitor.specs.Commands.{counterOf, millisecondsOf}
 use Rattle.monitor.specs.Refusals.{settingsRefusal, elapsedRefusal, clockRefusal}
 use Rattle.monitor.specs.Settings.{discard, decoded}
 use Rattle.monitor.specs.Counting.{bit, loads, countedIn, triggers, debugLog}
@@ -44,8 +44,8 @@ untouchedIf none old next = next
 -- Accepted settings replace the old ones. With discard 1 the debug record is removed, with 0 it is kept, whatever
 -- enable says. With enable 1 both windows become empty and steps and partial step become 0, also when nothing changed.
 -- With enable 0 windows and steps are kept and frozen.
-abbrev configured : Monitor → List ℕ → Monitor
-configured m s =
+abbrev replaced : Monitor → List ℕ → Monitor
+replaced m s =
     let on : Bool = decoded s .enabled in
     record {
       settings = decoded s;
@@ -59,13 +59,14 @@ configured m s =
       debug = cond (eqb (discard s) 1) noDebugLog (m .debug);
     }
 
+-- what settings do, and what they answer
 unfoldable pub afterSettings : Monitor → List ℕ → Monitor
-afterSettings m s = untouchedIf (settingsRefusal s) m (configured m s)
+afterSettings m s = untouchedIf (settingsRefusal s) m (replaced m s)
 
 unfoldable pub settingsReply : List ℕ → Reply
 settingsReply s = unlessRefused (settingsRefusal s) done
 
--- whether a completion of so many ms loads counter n's stamp; the sum of elapsed time since the last load is the time
+-- whether a completion of so many ms loads counter n's stamp: the sum of elapsed time since the last load is the time
 -- in the window now, less that at the load
 abbrev loadsAt : Monitor → ℕ → ℕ → Bool
 loadsAt m n ms =
@@ -75,12 +76,13 @@ loadsAt m n ms =
     (bit (m .settings .mode) n)
     (m .settings .«minimum_window»)
 
+-- whether a completion for counter n takes a debug record
 abbrev triggersAt : Monitor → ℕ → Bool
 triggersAt m n = triggers (bit (m .settings .trigger) n) (m .debug .stamp)
 
--- a completion that counts for counter n
-abbrev countedAt : Monitor → ℕ → ℕ → Monitor
-countedAt m n ms =
+-- the record after a completion of so many ms that counts for counter n
+abbrev afterCounted : Monitor → ℕ → ℕ → Monitor
+afterCounted m n ms =
     record {
       settings = m .settings;
       clock = m .clock;
@@ -93,28 +95,31 @@ countedAt m n ms =
       debug = cond (triggersAt m n) (debugLog n (m .clock) ms (m .host)) (m .debug);
     }
 
+-- the others are not counted
 abbrev onCounter : Option ℕ → Monitor → ℕ → Monitor
-onCounter (some n) m ms = countedAt m n ms
+onCounter (some n) m ms = afterCounted m n ms
 onCounter none m ms = m
 
+-- what a completion does; it is never refused
 unfoldable pub afterCompletion : Monitor → Completion → Monitor
-afterCompletion m c = onCounter (counterOf (m .settings) c) m (latencyOf c)
+afterCompletion m c = onCounter (counterOf (m .settings) c) m (millisecondsOf c)
 
+-- the pair with two yes-or-no facts, or 'not counted'
 abbrev counterReply : Option ℕ → Monitor → ℕ → Reply
 counterReply (some n) m ms = counted n (loadsAt m n ms) (triggersAt m n)
 counterReply none m ms = notCounted
 
 unfoldable pub completionReply : Monitor → Completion → Reply
-completionReply m c = counterReply (counterOf (m .settings) c) m (latencyOf c)
+completionReply m c = counterReply (counterOf (m .settings) c) m (millisecondsOf c)
 
--- the steps after elapsed time
+-- steps, partial step and the window's end after elapsed time
 abbrev tickedBy : Monitor → ℕ → Tick
 tickedBy m ms =
     ticked (m .settings .enabled) (m .settings .«timer_threshold») (m .timer) (m .partial) ms
 
--- When the steps reach the timer threshold, the running window becomes the last finished one, a new empty one starts.
-abbrev passed : Monitor → ℕ → Monitor
-passed m ms =
+-- Where the window ends, the running window becomes the last finished one, a new empty one starts.
+abbrev afterTime : Monitor → ℕ → Monitor
+afterTime m ms =
     let t : Tick = tickedBy m ms in
     record {
       settings = m .settings;
@@ -128,13 +133,14 @@ passed m ms =
       debug = m .debug;
     }
 
+-- what elapsed time does, and what it answers
 unfoldable pub afterElapsed : Monitor → ℕ → Monitor
-afterElapsed m ms = untouchedIf (elapsedRefusal ms) m (passed m ms)
+afterElapsed m ms = untouchedIf (elapsedRefusal ms) m (afterTime m ms)
 
--- The answer says whether a window ended.
 unfoldable pub elapsedReply : Monitor → ℕ → Reply
 elapsedReply m ms = unlessRefused (elapsedRefusal ms) (ended (tickedBy m ms .expired))
 
+-- the record with another clock; the time since a stamp's load stays
 abbrev clockSet : Monitor → ℕ → Bool → Monitor
 clockSet m value host =
     record {

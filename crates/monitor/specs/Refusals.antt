@@ -14,6 +14,7 @@ abbrev row : ℕ → Bool → Option ℕ → Option ℕ
 row n true later = some n
 row n false later = later
 
+-- one of two numbers above a limit
 abbrev pub eitherAbove : ℕ → ℕ → ℕ → Bool
 eitherAbove top a b = ltb top a || ltb top b
 
@@ -22,7 +23,8 @@ abbrev pub unordered : List ℕ → Bool
 unordered t =
     ltb (getD t 1 0) (getD t 0 0) || (ltb (getD t 2 0) (getD t 1 0) || ltb (getD t 3 0) (getD t 2 0))
 
--- discard or enable above 1; timer threshold 0; thresholds out of order; bit 12 to 15 of mode or trigger is set
+-- discard or enable above 1; timer threshold 0; thresholds out of order; bit 12 to 15 of mode or trigger is set, which
+-- makes it above 4,095. Settings are checked alike for either enable.
 unfoldable pub fieldRefusal : ℕ → ℕ → Settings → Option ℕ
 fieldRefusal discard enable s =
     row 3 (eitherAbove 1 discard enable)

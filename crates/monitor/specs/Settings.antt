@@ -6,10 +6,11 @@ use lib.ListN.{getD}
 use Rattle.endian.specs.Bytes.{word}
 use Rattle.logpage.specs.declared.Settings.{Settings}
 
+-- the byte at a place
 abbrev byte : List ℕ → ℕ → ℕ
 byte s at = getD s at 0
 
--- Fields of several bytes have the lowest byte first.
+-- the field of two bytes from a place
 abbrev wordAt : List ℕ → ℕ → ℕ
 wordAt s at = word (byte s at) (byte s (at + 1))
 
@@ -21,7 +22,7 @@ discard s = byte s 11
 abbrev pub enable : List ℕ → ℕ
 enable s = byte s 12
 
--- the settings that accepted bytes put in force
+-- 0-1 timer threshold; 2 to 5 thresholds A to D; 6-7 stamping mode; 8 minimum window; 9-10 debug trigger
 unfoldable pub decoded : List ℕ → Settings
 decoded s =
     record {

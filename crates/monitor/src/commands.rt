@@ -2,8 +2,7 @@
 ghost use mathlib.Core.Path.{_≡_};
 ghost use mathlib.Core.Option.{some};
 ghost use Prim.Native.Nat.{_<_};
-ghost use lib.Dec.{ltb};
-ghost use Rattle.monitor.specs.Commands.{kindOf, bucketOf, counterAt, counterOf, latencyOf};
+ghost use Rattle.monitor.specs.Commands.{kindOf, reaches, bucketOf, counterAt, counterOf, millisecondsOf};
 ghost use Rattle.monitor.specs.Commands.{saysKind, saysBucket, saysCounter};
 use logpage::Settings;
 
@@ -14,7 +13,7 @@ pub struct Completion {
     pub latency: u32,
 }
 
-// The commands that have counters.
+// Read, Write and Deallocate have counters.
 pub enum Kind {
     Read,
     Write,
@@ -22,6 +21,7 @@ pub enum Kind {
     Other,
 }
 
+// The bucket of a latency, 0 to 3; below threshold A there is none.
 pub enum Bucket {
     At(u8),
     Below,
@@ -30,11 +30,11 @@ pub enum Bucket {
 // There are twelve counters; this is the number of none of them.
 pub const NOT_COUNTED: u16 = 12;
 
-// Whether a latency of so many increments of 5 ms reaches a threshold, whose byte v means v + 1 of them.
-fn reaches(threshold: u8, increments: u32) -> bool
-    ensures { λ r. ⌜ r ≡ ltb threshold increments ⌝ }
+// Whether a latency reaches a threshold, whose byte v means v + 1 increments of 5 ms.
+fn reaches(latency: u32, threshold: u8) -> bool
+    ensures { λ r. ⌜ r ≡ reaches latency threshold ⌝ }
 {
-    (threshold as u32) < increments
+    (threshold as u32) < latency / 5000
 }
 
 // The number of the counter of a bucket and a kind.
@@ -69,14 +69,14 @@ impl Completion {
     pub(crate) fn bucket(self, thresholds: [u8; 4]) -> Bucket
         ensures { λ r. ⌜ saysBucket r ≡ bucketOf thresholds self ⌝ }
     {
-        let increments = self.latency / 5000;
+        let latency = self.latency;
         let mut b: u8 = 4;
         loop {
             if b == 0 {
                 break Bucket::Below;
             }
             b -= 1;
-            if reaches(thresholds[b as usize], increments) {
+            if reaches(latency, thresholds[b as usize]) {
                 break Bucket::At(b);
             }
         }
@@ -84,7 +84,7 @@ impl Completion {
 
     // The latency in ms.
     pub(crate) fn milliseconds(self) -> u16
-        ensures { λ r. ⌜ r ≡ latencyOf self ⌝ }
+        ensures { λ r. ⌜ r ≡ millisecondsOf self ⌝ }
     {
         let ms = self.latency / 1000;
         if ms < 65535 { ms as u16 } else { 65535 }

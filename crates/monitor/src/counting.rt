@@ -7,7 +7,7 @@ ghost use Rattle.monitor.specs.Counting.{bit, onceMore, loads, triggers,
 use logpage::DebugLog;
 use logpage::UNSET;
 
-pub const COUNTER_TOP: u32 = 4_294_967_295;
+const COUNTER_TOP: u32 = 4_294_967_295;
 
 // Whether counter n's bit is set.
 pub(crate) fn bit(mask: u16, n: usize) -> bool
@@ -61,7 +61,8 @@ fn since(loaded: u64, now: u64) -> u64
 }
 
 // Whether a completion of `ms` loads a stamp: it is unset; or in mode largest the latency is larger than the one
-// measured, and the minimum window since the last load, both as time in the active window, is over.
+// measured, and at least the minimum window has passed since the last load. `loaded` and `now` are times in the active
+// window.
 pub(crate) fn loads(
     stamp: u64,
     latency: u16,
@@ -86,11 +87,16 @@ pub(crate) fn loads(
     }
 }
 
-// Whether a completion takes a debug log: its trigger bit is set, and none is held.
-pub(crate) fn triggers(trigger: bool, held: u64) -> bool
-    ensures { λ r. ⌜ r ≡ triggers trigger held ⌝ }
+// Whether a completion for counter n takes a debug log: its trigger bit is set, and none is held, so that the log's stamp is unset.
+pub(crate) fn triggers(trigger: u16, n: usize, stamp: u64) -> bool
+    requires { ⌜ n < 12 ⌝ }
+    ensures { λ r. ⌜ r ≡ triggers (bit trigger n) stamp ⌝ }
 {
-    if trigger { held == UNSET } else { false }
+    if bit(trigger, n) {
+        stamp == UNSET
+    } else {
+        false
+    }
 }
 
 // The debug log after a completion for counter n: its own if it takes one, else the one that was held.

@@ -38,17 +38,17 @@ pub struct Monitor {
 }
 
 // The next record and the answer.
-pub struct Step {
+pub struct Outcome {
     pub next: Monitor,
     pub answer: Answer,
 }
 
-pub struct CompletionStep {
+pub struct CompletionOutcome {
     pub next: Monitor,
     pub answer: CompletionAnswer,
 }
 
-pub struct ElapsedStep {
+pub struct ElapsedOutcome {
     pub next: Monitor,
     pub answer: ElapsedAnswer,
 }
@@ -75,14 +75,14 @@ impl Monitor {
     }
 
     // Settings, as 4,096 bytes.
-    pub fn configure(mut self, s: &[u8]) -> Step
+    pub fn configure(mut self, s: &[u8]) -> Outcome
         ensures next { λ r. ⌜ r .next ≡ afterSettings self (now (s .entry)) ⌝ }
         ensures answer { λ r. ⌜ saysAnswer (r .answer) ≡ settingsReply (now (s .entry)) ⌝ }
     {
         match settings::check(s) {
             Answer::Refused(n) => {
                 let answer = Answer::Refused(n);
-                Step { next: self, answer }
+                Outcome { next: self, answer }
             }
             Answer::Done => {
                 let next = settings::decode(s);
@@ -97,17 +97,17 @@ impl Monitor {
                     self.static_window = w;
                     self.active_window = w;
                     let answer = Answer::Done;
-                    Step { next: self, answer }
+                    Outcome { next: self, answer }
                 } else {
                     let answer = Answer::Done;
-                    Step { next: self, answer }
+                    Outcome { next: self, answer }
                 }
             }
         }
     }
 
     // A completed command.
-    pub fn completion(mut self, c: Completion) -> CompletionStep
+    pub fn completion(mut self, c: Completion) -> CompletionOutcome
         ensures next { λ r. ⌜ r .next ≡ afterCompletion self c ⌝ }
         ensures answer { λ r. ⌜ saysCompletion (r .answer) ≡ completionReply self c ⌝ }
     {
@@ -116,19 +116,17 @@ impl Monitor {
             let n = counter as usize;
             let ms = c.milliseconds();
             let now = timer::in_window(self.timer, self.partial);
-            let debug = counting::triggers(
-                counting::bit(self.settings.trigger, n),
-                self.debug.stamp,
-            );
+            // The debug log takes nothing from the counter or the stamp, so it may come first.
+            let debug = counting::triggers(self.settings.trigger, n, self.debug.stamp);
             self.debug = counting::logged(debug, self.debug, n, self.clock, ms, self.host);
             let active = self.active_window.counters;
             let counters = counting::counted_at(active, counter);
             let mut stamps = self.active_window.stamps;
             let mut latencies = self.active_window.latencies;
             let mut loaded = self.loaded;
-            let largest = counting::bit(self.settings.mode, n);
-            let wait = self.settings.minimum_window;
-            if counting::loads(stamps[n], latencies[n], loaded[n], ms, largest, wait, now) {
+            let mode = counting::bit(self.settings.mode, n);
+            let minimum = self.settings.minimum_window;
+            if counting::loads(stamps[n], latencies[n], loaded[n], ms, mode, minimum, now) {
                 let mut units = self.active_window.units;
                 stamps[n] = self.clock;
                 latencies[n] = ms;
@@ -137,27 +135,28 @@ impl Monitor {
                 self.active_window = Window::of(counters, stamps, latencies, units);
                 self.loaded = loaded;
                 let answer = CompletionAnswer::Loaded { counter, debug };
-                CompletionStep { next: self, answer }
+                CompletionOutcome { next: self, answer }
             } else {
+                // Read again: the arrays that were indexed would be copied.
                 let stamps = self.active_window.stamps;
                 let latencies = self.active_window.latencies;
                 let units = self.active_window.units;
                 self.active_window = Window::of(counters, stamps, latencies, units);
                 let answer = CompletionAnswer::Counted { counter, debug };
-                CompletionStep { next: self, answer }
+                CompletionOutcome { next: self, answer }
             }
         } else {
             let answer = CompletionAnswer::NotCounted;
-            CompletionStep { next: self, answer }
+            CompletionOutcome { next: self, answer }
         }
     }
 
     // Elapsed time, in ms.
-    pub fn elapsed(mut self, ms: u32) -> ElapsedStep
+    pub fn elapsed(mut self, ms: u32) -> ElapsedOutcome
         ensures next { λ r. ⌜ r .next ≡ afterElapsed self ms ⌝ }
         ensures answer { λ r. ⌜ saysElapsed (r .answer) ≡ elapsedReply self ms ⌝ }
     {
-        if ms <= timer::STEP {
+        if ms <= timer::ELAPSED_TOP {
             let t = timer::ticked(
                 self.settings.enabled,
                 self.settings.timer_threshold,
@@ -175,19 +174,19 @@ impl Monitor {
                 self.static_window = w;
                 self.active_window = e;
                 let answer = ElapsedAnswer::Ended;
-                ElapsedStep { next: self, answer }
+                ElapsedOutcome { next: self, answer }
             } else {
                 let answer = ElapsedAnswer::Active;
-                ElapsedStep { next: self, answer }
+                ElapsedOutcome { next: self, answer }
             }
         } else {
             let answer = ElapsedAnswer::Refused(refusals::ELAPSED_TIME);
-            ElapsedStep { next: self, answer }
+            ElapsedOutcome { next: self, answer }
         }
     }
 
     // The host sets the clock, in ms.
-    pub fn set_clock(mut self, value: u64) -> Step
+    pub fn set_clock(mut self, value: u64) -> Outcome
         ensures next { λ r. ⌜ r .next ≡ afterClock self value ⌝ }
         ensures answer { λ r. ⌜ saysAnswer (r .answer) ≡ clockReply value ⌝ }
     {
@@ -195,21 +194,21 @@ impl Monitor {
             self.clock = value;
             self.host = true;
             let answer = Answer::Done;
-            Step { next: self, answer }
+            Outcome { next: self, answer }
         } else {
             let answer = Answer::Refused(refusals::CLOCK_VALUE);
-            Step { next: self, answer }
+            Outcome { next: self, answer }
         }
     }
 
     // Power-up.
-    pub fn power_up(mut self) -> Step
+    pub fn power_up(mut self) -> Outcome
         ensures next { λ r. ⌜ r .next ≡ afterPowerUp self ⌝ }
         ensures answer { λ r. ⌜ saysAnswer (r .answer) ≡ done ⌝ }
     {
         self.clock = 0;
         self.host = false;
         let answer = Answer::Done;
-        Step { next: self, answer }
+        Outcome { next: self, answer }
     }
 }

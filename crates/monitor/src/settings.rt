@@ -13,7 +13,7 @@ use crate::refusals;
 use logpage::DebugLog;
 use logpage::Settings;
 
-pub const LENGTH: usize = 4096;
+const LENGTH: usize = 4096;
 
 // The places of the two flags.
 pub const DISCARD: usize = 11;
@@ -23,8 +23,8 @@ pub const ENABLE: usize = 12;
 // The first byte that is reserved.
 const RESERVED: usize = 13;
 
-// The mask of all twelve counters.
-const COUNTERS: u16 = 4095;
+// The bits of the twelve counters.
+const COUNTER_MASK: u16 = 4095;
 
 // The settings that accepted bytes put in force.
 pub(crate) fn decode(s: &[u8]) -> Settings
@@ -72,7 +72,7 @@ fn check_fields(discard: u8, enable: u8, s: Settings) -> Answer
         Answer::Refused(refusals::NO_TIMER_THRESHOLD)
     } else if unordered(t) {
         Answer::Refused(refusals::THRESHOLD_ORDER)
-    } else if either_above(COUNTERS, s.mode, s.trigger) {
+    } else if either_above(COUNTER_MASK, s.mode, s.trigger) {
         Answer::Refused(refusals::RESERVED_BIT)
     } else {
         Answer::Done

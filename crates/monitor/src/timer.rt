@@ -1,10 +1,13 @@
-// The active bucket timer: time in the active window, in steps of five minutes and ms since the last step.
+// The active bucket timer: time in the active window, in increments of five minutes and ms since the last one.
 ghost use mathlib.Core.Path.{_≡_};
-ghost use Prim.Native.Nat.{_+_, _*_, _≤_};
+ghost use Prim.Native.Nat.{_≤_};
 ghost use Rattle.monitor.specs.Timer.{tick, ticked, inWindow, grown};
 
-// A step, in ms; also the most time that one call may bring.
-pub const STEP: u32 = 300_000;
+// The timer's increment: five minutes, in ms.
+pub const INCREMENT: u32 = 300_000;
+
+// The most time that one call may bring.
+pub const ELAPSED_TOP: u32 = 300_000;
 
 // The largest clock.
 pub const CLOCK_TOP: u64 = 281_474_976_710_655;
@@ -36,10 +39,10 @@ pub(crate) fn ticked(enabled: bool, threshold: u16, timer: u16, partial: u32, ms
 {
     if enabled {
         let sum = partial as u64 + ms as u64;
-        if sum < STEP as u64 {
+        if sum < INCREMENT as u64 {
             return Tick::of(timer, sum as u32, false);
         }
-        let rest = (sum - STEP as u64) as u32;
+        let rest = (sum - INCREMENT as u64) as u32;
         let next = timer as u32 + 1;
         if next < threshold as u32 {
             return Tick::of(next as u16, rest, false);
@@ -53,7 +56,7 @@ pub(crate) fn ticked(enabled: bool, threshold: u16, timer: u16, partial: u32, ms
 pub(crate) fn in_window(timer: u16, partial: u32) -> u64
     ensures { λ r. ⌜ r ≡ inWindow timer partial ⌝ }
 {
-    timer as u64 * STEP as u64 + partial as u64
+    timer as u64 * INCREMENT as u64 + partial as u64
 }
 
 // The clock after elapsed time, held at its top.

@@ -1,5 +1,5 @@
 -- Laws of the search for a bucket, and of a counter's number.
-use mathlib.Core.Path.{_≡_, refl}
+use mathlib.Core.Path.{_≡_, refl, sym}
 use mathlib.Core.Bool.{Bool, true, false, cond}
 use mathlib.Core.List.{List}
 use mathlib.Core.Option.{Option, none, some}
@@ -15,14 +15,19 @@ use Rattle.monitor.specs.declared.commands.Completion.{Completion}
 use Rattle.monitor.specs.Commands.{highestBelow, reaches, bucketOf, kindOf, counterAt, counterOf, saysCounter}
 
 -- a threshold byte v is reached where v is below the latency's increments of 5 ms
-reached : (us v : ℕ) → v < us / 5000 → 5000 * (v + 1) ≤ us
-reached us v h = omega (arith, le-div-iff-mul-le {k = 5000} {x = v + 1} {y = us} (omega arith) .0 (omega arith))
+pub in-increments : (us v : ℕ) → ltb v (us / 5000) ≡ reaches us v
+in-increments us v = by (ltb v (us / 5000)) refl
+  where
+    by : (t : Bool) → ltb v (us / 5000) ≡ t → t ≡ reaches us v
+    by true h =
+        let above = le-div-iff-mul-le {k = 5000} {x = v + 1} {y = us} (omega arith) .0 (omega (arith, ltb-true v _ h)) in
+        sym (le-leb (5000 * (v + 1)) us (omega arith))
+    by false h =
+        let below = div-lt-iff-lt-mul {k = 5000} {x = us} {y = v + 1} (omega arith) .0 (omega (arith, ltb-false v _ h)) in
+        sym (lt-leb (5000 * (v + 1)) us (omega arith))
 
-passed : (us v : ℕ) → us / 5000 ≤ v → us < 5000 * (v + 1)
-passed us v h = omega (arith, div-lt-iff-lt-mul {k = 5000} {x = us} {y = v + 1} (omega arith) .0 (omega arith))
-
--- one step of the search down, with the latency in increments
-module _ (thresholds : List ℕ) (us increments : ℕ) (e : us / 5000 ≡ increments) (n : ℕ) (p : 0 < n) where
+-- one step of the search down
+module _ (thresholds : List ℕ) (us : ℕ) where
   down :
       (n : ℕ) →
       0 < n →
@@ -32,13 +37,15 @@ module _ (thresholds : List ℕ) (us increments : ℕ) (e : us / 5000 ≡ increm
   down zero h = absurd (not-suc-le-zero h)
   down (suc n) h = rw (sub-one (suc n))
 
-  pub hit : ltb (getD thresholds (n - 1) 0) increments ≡ true → highestBelow thresholds us n ≡ some (n - 1)
-  hit t = rw (down n p, le-leb _ _ (reached us (getD thresholds (n - 1) 0) (omega (arith, ltb-true _ increments t))))
+  pub hit : (n : ℕ) → 0 < n → reaches us (getD thresholds (n - 1) 0) ≡ true → highestBelow thresholds us n ≡ some (n - 1)
+  hit n p t = rw (down n p, t)
 
   pub miss :
-      ltb (getD thresholds (n - 1) 0) increments ≡ false →
+      (n : ℕ) →
+      0 < n →
+      reaches us (getD thresholds (n - 1) 0) ≡ false →
       highestBelow thresholds us n ≡ highestBelow thresholds us (n - 1)
-  miss t = rw (down n p, lt-leb _ _ (passed us (getD thresholds (n - 1) 0) (omega (arith, ltb-false _ increments t))))
+  miss n p t = rw (down n p, t)
 
 pub nothing : (thresholds : List ℕ) (us : ℕ) → highestBelow thresholds us 0 ≡ none
 unfolding highestBelow

@@ -1,6 +1,6 @@
 -- What the calls' branches come to, as laws over plain values.
 use mathlib.Core.Path.{_≡_, sym, _∙_}
-use mathlib.Core.Bool.{Bool, true, false, cond}
+use mathlib.Core.Bool.{Bool, cond}
 use mathlib.Core.List.{List}
 use mathlib.Core.Option.{some, none}
 use Prim.Native.Nat.{ℕ, _-_, _≤_, _<_}
@@ -10,7 +10,6 @@ use borrow.Author.Tests.{le-ltb}
 use Rattle.logpage.specs.Fields.{windowOf, emptyWindow, noDebugLog}
 use Rattle.logpage.specs.declared.DebugLog.{DebugLog}
 use Rattle.logpage.specs.declared.Settings.{Settings}
-use Rattle.logpage.specs.declared.Window.{Window}
 use Rattle.monitor.specs.declared.commands.Completion.{Completion}
 use Rattle.monitor.specs.declared.record.Monitor.{Monitor}
 use Rattle.monitor.specs.declared.timer.Tick.{Tick}
@@ -18,7 +17,7 @@ use Rattle.monitor.specs.Answers.{done, refused, notCounted, counted, en
 use Rattle.monitor.specs.Refusals.{settingsRefusal, elapsedRefusal}
 use Rattle.monitor.specs.Settings.{discard, decoded}
 use Rattle.monitor.specs.Counting.{bit, onceMore, loads, countedIn, triggers, debugLog}
-use Rattle.monitor.specs.Commands.{saysCounter, counterOf, latencyOf}
+use Rattle.monitor.specs.Commands.{saysCounter, counterOf, millisecondsOf}
 use Rattle.monitor.specs.Timer.{grown, ticked, inWindow}
 use Rattle.monitor.proofs.settings.Laws.{refused-by}
 use Rattle.monitor.proofs.commands.Laws.{named, unnamed}
@@ -68,8 +67,8 @@ unfolding afterCompletion completionReply
 not-counted m c n says h = let none-at = sym says ∙ unnamed n h in (rw none-at, rw none-at)
 
 -- what a counted completion writes, by whether it loads the stamp
-abbrev pub written : Monitor → (n ms now : ℕ) (log : DebugLog) (counters : List ℕ) (load : Bool) → Monitor
-written m n ms now log counters load =
+abbrev pub recorded : Monitor → (n ms now : ℕ) (log : DebugLog) (counters : List ℕ) (load : Bool) → Monitor
+recorded m n ms now log counters load =
     record {
       settings = m .settings;
       timer = m .timer;
@@ -88,17 +87,16 @@ written m n ms now log counters load =
 
 -- what is known once it is decided whether the stamp is loaded
 pub record Decided (m : Monitor) (c : Completion) (n ms now : ℕ) (log : DebugLog) (counters : List ℕ) (debug load : Bool) : Type 0 where
-  pub next : written m n ms now log counters load ≡ afterCompletion m c
+  pub next : recorded m n ms now log counters load ≡ afterCompletion m c
   pub reply : counted n load debug ≡ completionReply m c
 
 pub decide :
-    (m : Monitor) (c : Completion) (n ms now : ℕ) (log : DebugLog) (counters : List ℕ) (trigger debug largest load : Bool) →
+    (m : Monitor) (c : Completion) (n ms now : ℕ) (log : DebugLog) (counters : List ℕ) (debug largest load : Bool) →
     saysCounter n ≡ counterOf (m .settings) c →
     n < 12 →
-    ms ≡ latencyOf c →
+    ms ≡ millisecondsOf c →
     now ≡ inWindow (m .timer) (m .partial) →
-    trigger ≡ bit (m .settings .trigger) n →
-    debug ≡ triggers trigger (m .debug .stamp) →
+    debug ≡ triggers (bit (m .settings .trigger) n) (m .debug .stamp) →
     log ≡ cond debug (debugLog n (m .clock) ms (m .host)) (m .debug) →
     counters ≡ set (m .«active_window» .counters) n (onceMore (getD (m .«active_window» .counters) n 0)) →
     largest ≡ bit (m .settings .mode) n →
@@ -107,11 +105,11 @@ pub decide :
     (m .settings .«minimum_window») →
     Decided m c n ms now log counters debug load
 unfolding afterCompletion completionReply countedIn
-decide m c n ms now log counters trigger debug largest load says few measured timed asked takes logs counts mode loading =
+decide m c n ms now log counters debug largest load says few measured timed takes logs counts mode loading =
     let chosen : counterOf (m .settings) c ≡ some n = sym says ∙ named n few in
     record {
-      next = rw (chosen, ← measured, ← timed, ← mode, ← loading, ← asked, ← takes, ← logs, ← counts);
-      reply = rw (chosen, ← measured, ← timed, ← mode, ← loading, ← asked, ← takes);
+      next = rw (chosen, ← measured, ← timed, ← mode, ← loading, ← takes, ← logs, ← counts);
+      reply = rw (chosen, ← measured, ← timed, ← mode, ← loading, ← takes);
     }
 
 -- elapsed time that is accepted, by whether the window ends

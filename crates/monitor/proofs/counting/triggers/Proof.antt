@@ -1,15 +1,20 @@
 -- `triggers`: the trigger bit set, and clear.
+use mathlib.Core.Path.{sym, _∙_}
 use Rattle.monitor.specs.Counting.{triggers}
+use borrow.Author.Needs.{needs}
 use Rattle.monitor.proofs.counting.triggers.Statement.{statement}
 use Rattle.monitor.proofs.counting.triggers.Tie as tie
 
+bit-requires : tie.Need-bit-requires
+bit-requires c κs = search needs
+
 returns : tie.Need-returns
 unfolding triggers
-returns c = rw (c .if1 .taken)
+returns c = rw (sym (c .before .bit .ensures) ∙ c .if1 .taken)
 
 returns-2 : tie.Need-returns-2
 unfolding triggers
-returns-2 c = rw (c .if1 .left)
+returns-2 c = rw (sym (c .before .bit .ensures) ∙ c .if1 .left)
 
 pub triggers-spec : {M : Type 1} → statement M
-triggers-spec = tie.close (tie.spec returns returns-2)
+triggers-spec = tie.close (tie.spec bit-requires returns returns-2)

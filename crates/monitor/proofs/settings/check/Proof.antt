@@ -5,11 +5,6 @@ use Rattle.monitor.proofs.settings.Laws.{length-refused, reserved-refus
 use borrow.Author.Needs.{needs}
 use Rattle.monitor.proofs.settings.check.Statement.{statement}
 use Rattle.monitor.proofs.settings.check.Tie as tie
-use Rattle.monitor.proofs.settings.check.Reads as reads
-use Rattle.monitor.proofs.settings.check.Lts as lts
-use Rattle.endian.proofs.any_set.Reads as any-set-reads
-use Rattle.monitor.proofs.settings.check_fields.Reads as check-fields-reads
-use Rattle.monitor.proofs.settings.decode.Reads as decode-reads
 
 sub-any-set : tie.Need-sub-any-set
 sub-any-set c = search needs

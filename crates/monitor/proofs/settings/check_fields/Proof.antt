@@ -3,10 +3,6 @@ use Rattle.monitor.proofs.settings.Laws.{flags-refused, timer-refused, 
 use borrow.Author.Needs.{needs}
 use Rattle.monitor.proofs.settings.check_fields.Statement.{statement}
 use Rattle.monitor.proofs.settings.check_fields.Tie as tie
-use Rattle.monitor.proofs.settings.check_fields.Reads as reads
-use Rattle.monitor.proofs.settings.check_fields.Lts as lts
-use Rattle.monitor.proofs.settings.either_above.Reads as either-above-reads
-use Rattle.monitor.proofs.settings.unordered.Reads as unordered-reads
 
 either-above-requires : tie.Need-either-above-requires
 either-above-requires c κs = search needs

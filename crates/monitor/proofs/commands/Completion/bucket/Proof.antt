@@ -1,6 +1,6 @@
 -- `Completion::bucket`: the buckets passed were not reached, so the search among those left decides.
-use mathlib.Core.Path.{_≡_, refl, sym, _∙_}
-use Prim.Native.Nat.{ℕ, _/_, _≤_}
+use mathlib.Core.Path.{_≡_, sym, _∙_}
+use Prim.Native.Nat.{_≤_}
 use borrow.Author.Needs.{needs}
 use Rattle.monitor.specs.Commands.{highestBelow, bucketOf}
 use Rattle.monitor.proofs.commands.Laws.{hit, miss, nothing}
@@ -8,15 +8,14 @@ use Rattle.monitor.proofs.commands.Completion.bucket.Statement.{stateme
 use Rattle.monitor.proofs.commands.Completion.bucket.Tie as tie
 
 abbrev Inv-loop : tie.InvT-loop
-Inv-loop thresholds increments b₀ b =
-    (b ≤ 4) ×
-    ((us : ℕ) → us / 5000 ≡ increments → highestBelow thresholds us b ≡ highestBelow thresholds us 4)
+Inv-loop thresholds latency b₀ b =
+    (b ≤ 4) × (highestBelow thresholds latency b ≡ highestBelow thresholds latency 4)
 
 abbrev μ-loop : tie.MeasureT-loop
-μ-loop thresholds increments b₀ b = b
+μ-loop thresholds latency b₀ b = b
 
 loop-holds : tie.Need-loop-holds Inv-loop μ-loop
-loop-holds c = (search needs, λ us e. refl)
+loop-holds c = search needs
 
 sub-b : tie.Need-sub-b Inv-loop μ-loop
 sub-b c = search needs
@@ -37,18 +36,18 @@ loop-again : tie.Need-loop-again Inv-loop μ-loop
 loop-again c =
     let l = c .before .before .before .loop in
     let not-reached = sym (c .before .reaches .ensures) ∙ c .if2 .left in
-    (search needs, λ us e. sym (miss _ us _ e (l .b) (search needs) not-reached) ∙ l .inv .1 us e)
+    (search needs, sym (miss _ _ (l .b) (search needs) not-reached) ∙ l .inv .1)
 
 returns : tie.Need-returns Inv-loop μ-loop
 unfolding bucketOf
-returns c = sym (nothing _ _) ∙ (rw (c .if1 .taken) at (c .before .loop .inv .1 _ refl))
+returns c = sym (nothing _ _) ∙ (rw (c .if1 .taken) at (c .before .loop .inv .1))
 
 returns-2 : tie.Need-returns-2 Inv-loop μ-loop
 unfolding bucketOf
 returns-2 c =
     let l = c .before .before .before .loop in
     let reached = sym (c .before .reaches .ensures) ∙ c .if2 .taken in
-    sym (hit _ _ _ refl (l .b) (search needs) reached) ∙ l .inv .1 _ refl
+    sym (hit _ _ (l .b) (search needs) reached) ∙ l .inv .1
 
 pub bucket-spec : {M : Type 1} → statement M
 bucket-spec =

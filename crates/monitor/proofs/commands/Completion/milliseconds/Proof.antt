@@ -1,7 +1,7 @@
 -- `Completion::milliseconds`: below the top, and at it.
 use native.Mathlib.Omega.{arith}
 use borrow.Author.Needs.{needs}
-use Rattle.monitor.specs.Commands.{latencyOf}
+use Rattle.monitor.specs.Commands.{millisecondsOf}
 use Rattle.monitor.proofs.commands.Completion.milliseconds.Statement.{statement}
 use Rattle.monitor.proofs.commands.Completion.milliseconds.Tie as tie
 
@@ -9,11 +9,11 @@ cast-result : tie.Need-cast-result
 cast-result c = search needs
 
 returns : tie.Need-returns
-unfolding latencyOf
+unfolding millisecondsOf
 returns c = omega arith
 
 returns-2 : tie.Need-returns-2
-unfolding latencyOf
+unfolding millisecondsOf
 returns-2 c = omega arith
 
 pub milliseconds-spec : {M : Type 1} → statement M

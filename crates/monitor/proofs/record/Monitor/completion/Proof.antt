@@ -18,9 +18,6 @@ milliseconds-requires c κs = search needs
 in-window-requires : tie.Need-in-window-requires
 in-window-requires c κs = search needs
 
-bit-requires : tie.Need-bit-requires
-bit-requires c κs = search needs
-
 triggers-requires : tie.Need-triggers-requires
 triggers-requires c κs = search needs
 
@@ -30,8 +27,8 @@ logged-requires c κs = search needs
 counted-at-requires : tie.Need-counted-at-requires
 counted-at-requires c κs = search needs
 
-bit-requires-2 : tie.Need-bit-requires-2
-bit-requires-2 c κs = search needs
+bit-requires : tie.Need-bit-requires
+bit-requires c κs = search needs
 
 mul-loads : tie.Need-mul-loads
 mul-loads c = search needs
@@ -89,7 +86,7 @@ abbrev at-triggers : tie.After-loads → tie.After-triggers
 at-triggers c = at-counted c .before .before .before
 
 abbrev at-milliseconds : tie.After-loads → tie.After-milliseconds
-at-milliseconds c = at-triggers c .before .before .before
+at-milliseconds c = at-triggers c .before .before
 
 abbrev at-counter : tie.After-loads → tie.After-counter
 at-counter c = at-milliseconds c .before .before
@@ -100,20 +97,19 @@ decided :
     c .loads .result ≡ load →
     Decided (at-counter c .before .args .self) (at-counter c .before .args .c) (at-counter c .counter .result)
     (at-milliseconds c .milliseconds .result)
-    (at-triggers c .before .before .in-window .result)
+    (at-triggers c .before .in-window .result)
     (at-counted c .before .before .logged .result)
     (at-counted c .counted-at .result)
     (at-triggers c .triggers .result)
     load
 decided c load e =
-    decide _ _ _ _ _ _ _ _ _ _ _ (at-counter c .counter .ensures) (at-milliseconds c .before .if1 .taken)
+    decide _ _ _ _ _ _ _ _ _ _ (at-counter c .counter .ensures) (at-milliseconds c .before .if1 .taken)
     (at-milliseconds c .milliseconds .ensures)
-    (at-triggers c .before .before .in-window .ensures)
-    (at-triggers c .before .bit .ensures)
+    (at-triggers c .before .in-window .ensures)
     (at-triggers c .triggers .ensures)
     (at-counted c .before .before .logged .ensures)
     (at-counted c .counted-at .ensures)
-    (c .before .bit2 .ensures)
+    (c .before .bit .ensures)
     (sym e ∙ c .loads .ensures)
 
 returns : tie.Need-returns
@@ -137,11 +133,10 @@ completion-spec =
     cast-n
     milliseconds-requires
     in-window-requires
-    bit-requires
     triggers-requires
     logged-requires
     counted-at-requires
-    bit-requires-2
+    bit-requires
     mul-loads
     array-read-loads
     mul-loads-2
