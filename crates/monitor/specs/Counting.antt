@@ -21,8 +21,8 @@ unfoldable pub loads : (stamp latency since ms : ℕ) (largest : Bool) (minimum 
 loads stamp latency since ms largest minimum =
     eqb stamp unset || (largest && (ltb latency ms && leb (100 * minimum) since))
 
--- the window after it; loading sets the stamp to the clock, the shown latency to this latency in ms, and the mark to 1 if
--- the clock is host-set, else 0.
+-- the window after a completion for counter n. Loading sets the stamp to the clock, the shown latency to this latency in
+-- ms, and the mark to 1 if the clock is host-set, else 0.
 unfoldable pub countedIn : Bool → (n clock ms : ℕ) (host : Bool) → Window → Window
 countedIn load n clock ms host w =
     record {
@@ -37,6 +37,6 @@ countedIn load n clock ms host w =
 unfoldable pub triggers : (trigger : Bool) (stamp : ℕ) → Bool
 triggers trigger stamp = trigger && eqb stamp unset
 
--- the debug record: ms, clock, clock mark and the pair as one set bit.
+-- what a debug record holds: ms, clock, clock mark and the pair as one set bit
 abbrev pub debugLog : (n clock ms : ℕ) (host : Bool) → DebugLog
 debugLog n clock ms host = record { stamp = clock; latency = ms; source = 2 ^ n; units = host }
