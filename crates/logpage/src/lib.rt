@@ -8,7 +8,7 @@ pub const UNSET: u64 = 0xffff_ffff_ffff_ffff;
 // The settings in force.
 #[repr(C)]
 pub struct Settings {
-    // Active Bucket Timer Threshold, in steps of five minutes.
+    // Active Bucket Timer Threshold, in increments of five minutes.
     pub timer_threshold: u16,
     // Active Latency Configuration: bit n set for counter n in mode largest.
     pub mode: u16,

@@ -25,6 +25,7 @@ fn one_bit(n: usize) -> u16
     1 << n
 }
 
+// A flag as a number.
 fn one_if(b: bool) -> u32
     ensures { λ r. ⌜ r ≡ cond b 1 0 ⌝ }
 {
@@ -87,7 +88,8 @@ pub(crate) fn loads(
     }
 }
 
-// Whether a completion for counter n takes a debug log: its trigger bit is set, and none is held, so that the log's stamp is unset.
+// Whether a completion for counter n takes a debug log: its trigger bit is set, and none is held, so that the log's
+// stamp is unset.
 pub(crate) fn triggers(trigger: u16, n: usize, stamp: u64) -> bool
     requires { ⌜ n < 12 ⌝ }
     ensures { λ r. ⌜ r ≡ triggers (bit trigger n) stamp ⌝ }

@@ -20,11 +20,11 @@ use logpage::Window;
 #[repr(C)]
 pub struct Monitor {
     pub settings: Settings,
-    // Active Bucket Timer: steps of five minutes in the active window (document 01: steps).
+    // Active Bucket Timer: increments of five minutes in the active window (document 01: steps).
     pub timer: u16,
     // Whether the host set the clock (document 01: host-set).
     pub host: bool,
-    // Time since the timer's last step, in ms (document 01: partial step).
+    // Time since the timer's last increment, in ms (document 01: partial step).
     pub partial: u32,
     // In ms.
     pub clock: u64,
