@@ -36,7 +36,7 @@ fn one_if(b: bool) -> u32
 fn counted_if(counter: u32, here: bool) -> u32
     ensures { λ r. ⌜ r ≡ cond here (onceMore counter) counter ⌝ }
 {
-    counter + one_if(here) * one_if(counter < COUNTER_TOP)
+    counter + one_if(here & (counter < COUNTER_TOP))
 }
 
 // The counters after one more completion for counter n. All are written, and none by a branch, so that they stay in
@@ -121,12 +121,6 @@ pub(crate) fn logged(
             units: host,
         }
     } else {
-        // Field by field: a copy of the struct would send the record through memory.
-        DebugLog {
-            stamp: held.stamp,
-            latency: held.latency,
-            source: held.source,
-            units: held.units,
-        }
+        held
     }
 }

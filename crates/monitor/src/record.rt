@@ -137,9 +137,6 @@ impl Monitor {
                 let answer = CompletionAnswer::Loaded { counter, debug };
                 CompletionOutcome { next: self, answer }
             } else {
-                // Read again: the arrays that were indexed would be copied.
-                let stamps = self.active_window.stamps;
-                let latencies = self.active_window.latencies;
                 let units = self.active_window.units;
                 self.active_window = Window::of(counters, stamps, latencies, units);
                 let answer = CompletionAnswer::Counted { counter, debug };

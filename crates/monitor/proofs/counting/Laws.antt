@@ -1,9 +1,8 @@
 -- Laws of counting.
 use mathlib.Core.Path.{_≡_, refl, _∙_}
-use mathlib.Core.Bool.{Bool, true, false, cond}
+use mathlib.Core.Bool.{Bool, true, false, cond, _&&_}
 use mathlib.Core.List.{List}
-use Prim.Native.Nat.{ℕ, _+_, _*_, _<_}
-use native.Mathlib.Nat.{zero-mul}
+use Prim.Native.Nat.{ℕ, _+_, _<_}
 use native.Mathlib.Omega.{arith}
 use borrow.Author.Tests.{lt-ltb, le-ltb, eqb-true, eqb-false, ltb-true, ltb-false}
 use lib.Dec.{eqb, ltb}
@@ -11,35 +10,21 @@ use lib.ListN.{getD, set}
 use lib.Seq.{set-getD}
 use Rattle.monitor.specs.Counting.{onceMore}
 
--- a flag as a number
-abbrev one : Bool → ℕ
-one b = cond b 1 0
-
 -- one more, unless the counter is at its top
-module _ (counter : ℕ) where
-  counts-by :
-      (here t : Bool) →
-      ltb counter 4294967295 ≡ t →
-      counter < 4294967296 →
-      counter + one here * one t ≡ cond here (onceMore counter) counter
-  counts-by true true e h = omega (arith, ltb-true counter 4294967295 e)
-  counts-by true false e h = omega (arith, ltb-false counter 4294967295 e)
-  counts-by false t e h = omega (arith, zero-mul (one t))
+pub counts :
+    (counter : ℕ) (here : Bool) →
+    counter < 4294967296 →
+    counter + cond (here && ltb counter 4294967295) 1 0 ≡ cond here (onceMore counter) counter
+counts counter false h = omega arith
+counts counter true h = by (ltb counter 4294967295) refl
+  where
+    by : (t : Bool) → ltb counter 4294967295 ≡ t → counter + cond t 1 0 ≡ onceMore counter
+    by true e = omega (arith, ltb-true counter 4294967295 e)
+    by false e = omega (arith, ltb-false counter 4294967295 e)
 
-  pub counts :
-      (here : Bool) →
-      counter < 4294967296 →
-      counter + one here * one (ltb counter 4294967295) ≡ cond here (onceMore counter) counter
-  counts here h = counts-by here (ltb counter 4294967295) refl h
-
-  pub counted-fits : (here : Bool) → counter < 4294967296 → cond here (onceMore counter) counter < 4294967296
-  counted-fits true h = omega arith
-  counted-fits false h = h
-
-pub flags-fit : (a b : Bool) → one a * one b < 4294967296
-flags-fit true true = omega arith
-flags-fit true false = omega arith
-flags-fit false b = omega (arith, zero-mul (one b))
+pub counted-fits : (counter : ℕ) (here : Bool) → counter < 4294967296 → cond here (onceMore counter) counter < 4294967296
+counted-fits counter true h = omega arith
+counted-fits counter false h = h
 
 -- a list that is written whole, changed at one place alone, is a store at that place
 module _ (f : ℕ → ℕ) (l : List ℕ) (n : ℕ) where

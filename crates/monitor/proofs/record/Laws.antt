@@ -32,8 +32,8 @@ unfolding afterSettings settingsReply
 settings-refused m s n e = (rw (refused-by (settingsRefusal s) n e), e)
 
 -- settings that are accepted, by whether they enable
-abbrev pub replaced : Monitor → Settings → DebugLog → Bool → Monitor
-replaced m next debug on =
+abbrev pub configured : Monitor → Settings → DebugLog → Bool → Monitor
+configured m next debug on =
     record {
       settings = next;
       timer = cond on 0 (m .timer);
@@ -52,7 +52,7 @@ pub settings-accepted :
     next ≡ decoded s →
     debug ≡ cond (eqb (discard s) 1) noDebugLog (m .debug) →
     next .enabled ≡ on →
-    (replaced m next debug on ≡ afterSettings m s) × (done ≡ settingsReply s)
+    (configured m next debug on ≡ afterSettings m s) × (done ≡ settingsReply s)
 unfolding afterSettings settingsReply
 settings-accepted m s next debug on accepted read keeps enables =
     (rw (accepted, ← read, ← enables, keeps), rw accepted)

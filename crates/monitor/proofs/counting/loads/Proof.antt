@@ -1,4 +1,5 @@
 -- `loads`: unset; mode largest and a larger latency; not larger; mode first.
+use native.Mathlib.Omega.{arith}
 use borrow.Author.Tests.{eq-eqb, ne-eqb, lt-ltb, le-ltb}
 use Rattle.monitor.specs.Counting.{loads}
 use borrow.Author.Needs.{needs}
@@ -18,11 +19,16 @@ returns c = rw (eq-eqb _ _ (c .if1 .taken))
 returns-2 : tie.Need-returns-2
 unfolding loads
 returns-2 c =
-    rw (ne-eqb _ _ (c .before .before .before .if1 .left), c .before .before .if2 .taken, lt-ltb _ _ (c .before .if3 .taken), c .since .ensures)
+    let a = c .before .before .before .before .args in
+    let larger = lt-ltb (a .latency) (a .ms) (omega arith) in
+    rw (ne-eqb _ _ (c .before .before .before .if1 .left), c .before .before .if2 .taken, larger, c .since .ensures)
 
 returns-3 : tie.Need-returns-3
 unfolding loads
-returns-3 c = rw (ne-eqb _ _ (c .before .before .if1 .left), c .before .if2 .taken, le-ltb _ _ (c .if3 .left))
+returns-3 c =
+    let a = c .before .before .before .args in
+    let not-larger = le-ltb (a .latency) (a .ms) (omega arith) in
+    rw (ne-eqb _ _ (c .before .before .if1 .left), c .before .if2 .taken, not-larger)
 
 returns-4 : tie.Need-returns-4
 unfolding loads

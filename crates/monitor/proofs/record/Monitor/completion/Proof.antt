@@ -119,7 +119,7 @@ returns c =
 
 returns-2 : tie.Need-returns-2
 returns-2 c =
-    let d = decided (c .before .before .before .before .before) false (c .before .before .before .before .if2 .left) in
+    let d = decided (c .before .before .before) false (c .before .before .if2 .left) in
     (rw (c .of2 .ensures) (d .next), d .reply)
 
 returns-3 : tie.Need-returns-3

@@ -1,4 +1,5 @@
 -- `Monitor::set_clock`: accepted, and turned away by row 8.
+use native.Mathlib.Omega.{arith}
 use borrow.Author.Tests.{lt-ltb, le-ltb}
 use Rattle.monitor.specs.Refusals.{clockRefusal}
 use Rattle.monitor.specs.Record.{afterClock, clockReply}
@@ -7,11 +8,15 @@ use Rattle.monitor.proofs.record.Monitor.set_clock.Tie as tie
 
 returns : tie.Need-returns
 unfolding afterClock clockReply clockRefusal
-returns c = (simp (le-ltb _ _ (c .if1 .taken)), simp (le-ltb _ _ (c .if1 .taken)))
+returns c =
+    let fits = le-ltb 281474976710655 (c .before .args .value) (omega arith) in
+    (simp fits, simp fits)
 
 returns-2 : tie.Need-returns-2
 unfolding afterClock clockReply clockRefusal
-returns-2 c = (simp (lt-ltb _ _ (c .if1 .left)), simp (lt-ltb _ _ (c .if1 .left)))
+returns-2 c =
+    let above = lt-ltb 281474976710655 (c .before .args .value) (omega arith) in
+    (simp above, simp above)
 
 pub set-clock-spec : {M : Type 1} → statement M
 set-clock-spec = tie.close (tie.spec returns returns-2)
