@@ -5,3 +5,5 @@ pub mod Timer
 pub mod Refusals
 pub mod Answers
 pub mod Record
+pub mod History
+pub mod Facts

@@ -44,3 +44,11 @@ elapsedRefusal ms = row 7 (ltb 300000 ms) none
 -- clock: 281,474,976,710,656 or more
 unfoldable pub clockRefusal : ℕ → Option ℕ
 clockRefusal value = row 8 (ltb 281474976710655 value) none
+
+-- page: lent buffer is not 512 bytes
+unfoldable pub pageRefusal : ℕ → Option ℕ
+pageRefusal length = row 9 (not (eqb length 512)) none
+
+-- settings back: lent buffer is not 4,096 bytes
+unfoldable pub settingsBackRefusal : ℕ → Option ℕ
+settingsBackRefusal length = row 10 (not (eqb length 4096)) none

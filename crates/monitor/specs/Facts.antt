@@ -1,0 +1,176 @@
+-- The facts of a history, each asked at a place: of what was done before it.
+use mathlib.Core.Bool.{Bool, true, false, cond, _&&_}
+use mathlib.Core.List.{List, [], _∷_}
+use mathlib.Core.Option.{Option, none, some}
+use Prim.Native.Nat.{ℕ, zero, suc, _+_, _-_, _*_, _/_, _%_, min}
+use lib.Dec.{eqb, leb, ltb}
+use lib.ListN.{length}
+use Rattle.logpage.specs.Fields.{unset, noSettings, noDebugLog}
+use Rattle.logpage.specs.declared.DebugLog.{DebugLog}
+use Rattle.logpage.specs.declared.Settings.{Settings}
+use Rattle.logpage.specs.declared.Window.{Window}
+use Rattle.monitor.specs.declared.commands.Completion.{Completion}
+use Rattle.monitor.specs.Commands.{counterOf, millisecondsOf}
+use Rattle.monitor.specs.Counting.{bit, debugLog}
+use Rattle.monitor.specs.History.{Effect, Past, settingsIn, completionIn, elapsedIn, clockIn, found, latest, since}
+use Rattle.monitor.specs.Settings.{decoded, discard}
+
+-- In force: the settings last accepted before a place, else all zero.
+unfoldable pub inForce : Past → Settings
+inForce past = found noSettings decoded (latest settingsIn past)
+
+-- sum of a list
+unfoldable pub sum : List ℕ → ℕ
+sum [] = 0
+sum (x ∷ xs) = sum xs + x
+
+-- no effect: what is found since then is found since the start
+abbrev pub never : Effect → Bool
+never e = false
+
+-- Time: the sum of accepted elapsed times.
+abbrev pub elapsed : Effect → Past → Option ℕ
+elapsed e past = elapsedIn e
+
+unfoldable pub time : Past → ℕ
+time past = sum (since never elapsed past)
+
+-- Clock at a place: time since the latest accepted clock call, power-up or the start before it, plus the value if that
+-- was a clock call, held at 281,474,976,710,655; host-set if that was a clock call.
+abbrev pub setsClock : Effect → Bool
+setsClock e = found false (λ value. true) (clockIn e)
+
+unfoldable pub clockAt : Past → ℕ
+clockAt past =
+    min (found 0 (λ set. found 0 (λ value. value) set) (latest clockIn past) + sum (since setsClock elapsed past))
+    281474976710655
+
+unfoldable pub hostSet : Past → Bool
+hostSet past = found false (λ set. found false (λ value. true) set) (latest clockIn past)
+
+-- settings with enable 1, and their timer threshold
+abbrev pub enables : Effect → Bool
+enables e = found false (λ s. decoded s .enabled) (settingsIn e)
+
+abbrev enabledThreshold : Effect → Option ℕ
+enabledThreshold e = cond (enables e) (found none (λ s. some (decoded s .«timer_threshold»)) (settingsIn e)) none
+
+-- Take the settings with enable 1 last accepted, p their timer threshold.
+unfoldable pub threshold : Past → ℕ
+threshold past = found 0 (λ p. p) (latest enabledThreshold past)
+
+-- t: the time while enabled from them to a later place
+abbrev pub whileEnabled : Effect → Past → Option ℕ
+whileEnabled e past = cond (inForce past .enabled) (elapsedIn e) none
+
+unfoldable pub enabledTime : Past → ℕ
+enabledTime past = sum (since enables whileEnabled past)
+
+-- Enabled completions after them are in window t ÷ (300,000 × p), rounded down. At the history's end this number n is
+-- the running window's.
+unfoldable pub windowAt : Past → ℕ
+windowAt past = enabledTime past / (300000 * threshold past)
+
+-- Steps are t ÷ 300,000, rounded down, less n × p, or 0 without such settings.
+unfoldable pub timerAt : Past → ℕ
+timerAt past = enabledTime past / 300000 - windowAt past * threshold past
+
+-- A counted completion, with its counter and its place. Whether a completion is enabled, and its pair, mode, minimum
+-- window and trigger bit, go by those in force at its own place, whatever is accepted later.
+pub record Counted : Type 0 where
+  pub counter : ℕ
+  pub command : Completion
+  pub before : Past
+
+abbrev pub countedAt : Effect → Past → Option Counted
+countedAt e past =
+    found none (λ c. found none (λ n. some (record { counter = n; command = c; before = past })) (counterOf (inForce past) c))
+    (completionIn e)
+
+-- those of a list that pass a test
+unfoldable pub those : (Counted → Bool) → List Counted → List Counted
+those test [] = []
+those test (x ∷ xs) = cond (test x) (x ∷ those test xs) (those test xs)
+
+-- the counted completions of one counter in the running window, and in the last finished one
+abbrev pub activeFor : Past → ℕ → Counted → Bool
+activeFor past n x = eqb (windowAt (x .before)) (windowAt past) && eqb (x .counter) n
+
+abbrev pub staticFor : Past → ℕ → Counted → Bool
+staticFor past n x = eqb (windowAt (x .before) + 1) (windowAt past) && eqb (x .counter) n
+
+unfoldable pub active : Past → ℕ → List Counted
+active past n = those (activeFor past n) (since enables countedAt past)
+
+unfoldable pub static : Past → ℕ → List Counted
+static past n = those (staticFor past n) (since enables countedAt past)
+
+-- Count: the number of the pair's counted completions in the window, held at 4,294,967,295.
+unfoldable pub countOf : List Counted → ℕ
+countOf xs = min (length xs) 4294967295
+
+-- Loads: the first of those completions and, in mode largest only, each with more ms than the last load before it and
+-- time since that of at least 100 × the minimum window.
+abbrev pub loadsAfter : Counted → Counted → Bool
+loadsAfter x load =
+    bit (inForce (x .before) .mode) (x .counter) && (ltb (millisecondsOf (load .command)) (millisecondsOf (x .command)) &&
+    leb (100 * inForce (x .before) .«minimum_window») (time (x .before) - time (load .before)))
+
+abbrev pub orLoad : Counted → Option Counted → Option Counted
+orLoad x none = some x
+orLoad x (some load) = cond (loadsAfter x load) (some x) (some load)
+
+unfoldable pub lastLoad : List Counted → Option Counted
+lastLoad [] = none
+lastLoad (x ∷ earlier) = orLoad x (lastLoad earlier)
+
+-- The last load's ms is the shown latency, the clock at its place is the stamp, and the mark is 1 if that clock is
+-- host-set, else 0; without a load the pair is as in an empty window.
+abbrev pub stampOf : Option Counted → ℕ
+stampOf load = found unset (λ x. clockAt (x .before)) load
+
+abbrev pub latencyOf : Option Counted → ℕ
+latencyOf load = found 0 (λ x. millisecondsOf (x .command)) load
+
+abbrev pub unitsOf : Option Counted → Bool
+unitsOf load = found false (λ x. hostSet (x .before)) load
+
+-- f 0, f 1, .. of the twelve counters
+unfoldable pub from : {A : Type 0} → ℕ → ℕ → (ℕ → A) → List A
+from i zero f = []
+from i (suc n) f = f i ∷ from (suc i) n f
+
+abbrev pub each : {A : Type 0} → (ℕ → A) → List A
+each f = from 0 12 f
+
+-- a window, from the completions counted for each counter
+abbrev pub windowOf : (ℕ → List Counted) → Window
+windowOf completions =
+    record {
+      counters = each (λ n. countOf (completions n));
+      stamps = each (λ n. stampOf (lastLoad (completions n)));
+      latencies = each (λ n. latencyOf (lastLoad (completions n)));
+      units = each (λ n. unitsOf (lastLoad (completions n)));
+    }
+
+-- Debug record: ms, clock, mark and pair bit of the first counted completion with its trigger bit 1 since discard 1 was
+-- last accepted, or the start; else none.
+abbrev pub discards : Effect → Bool
+discards e = found false (λ s. eqb (discard s) 1) (settingsIn e)
+
+abbrev pub triggered : Counted → Bool
+triggered x = bit (inForce (x .before) .trigger) (x .counter)
+
+abbrev pub orFirst : Counted → Option Counted → Option Counted
+orFirst x none = some x
+orFirst x (some first) = some first
+
+unfoldable pub first : List Counted → Option Counted
+first [] = none
+first (x ∷ earlier) = orFirst x (first earlier)
+
+abbrev pub logOf : Counted → DebugLog
+logOf x = debugLog (x .counter) (clockAt (x .before)) (millisecondsOf (x .command)) (hostSet (x .before))
+
+unfoldable pub debugAt : Past → DebugLog
+debugAt past = found noDebugLog logOf (first (those triggered (since discards countedAt past)))

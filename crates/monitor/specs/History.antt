@@ -1,0 +1,141 @@
+-- Histories of calls, and the record that a history leaves.
+use mathlib.Core.Bool.{Bool, cond}
+use mathlib.Core.List.{List, [], _∷_, map}
+use mathlib.Core.Option.{Option, none, some}
+use Prim.Native.Nat.{ℕ}
+use Rattle.monitor.specs.declared.commands.Completion.{Completion}
+use Rattle.monitor.specs.declared.record.Monitor.{Monitor}
+use Rattle.monitor.specs.Record.{newMonitor, afterSettings, afterCompletion, afterElapsed, afterClock, afterPowerUp}
+use Rattle.monitor.specs.Refusals.{settingsRefusal, elapsedRefusal, clockRefusal, pageRefusal, settingsBackRefusal}
+
+-- Settings stand in a history as their bytes, page and settings back as a buffer length.
+pub data Call : Type 0 where
+  settings : List ℕ → Call
+  completion : Completion → Call
+  elapsed : ℕ → Call
+  clock : ℕ → Call
+  powerUp : Call
+  page : ℕ → Call
+  settingsBack : ℕ → Call
+
+-- the calls from a new monitor on, the newest first: what stands behind a call is the history at its place
+abbrev pub History : Type 0
+History = List Call
+
+-- what a call leaves of the record, by the call's own definition; page and settings back only read
+abbrev pub after : Call → Monitor → Monitor
+after (settings s) m = afterSettings m s
+after (completion c) m = afterCompletion m c
+after (elapsed ms) m = afterElapsed m ms
+after (clock value) m = afterClock m value
+after powerUp m = afterPowerUp m
+after (page length) m = m
+after (settingsBack length) m = m
+
+-- the record that a history leaves of another
+unfoldable pub playFrom : Monitor → History → Monitor
+playFrom m [] = m
+playFrom m (c ∷ h) = after c (playFrom m h)
+
+-- the record that a history leaves of a new monitor
+abbrev pub play : History → Monitor
+play h = playFrom newMonitor h
+
+-- the row that turns a call away
+abbrev pub refusalOf : Call → Option ℕ
+refusalOf (settings s) = settingsRefusal s
+refusalOf (completion c) = none
+refusalOf (elapsed ms) = elapsedRefusal ms
+refusalOf (clock value) = clockRefusal value
+refusalOf powerUp = none
+refusalOf (page length) = pageRefusal length
+refusalOf (settingsBack length) = settingsBackRefusal length
+
+-- what a call does to the record
+pub data Effect : Type 0 where
+  configured : List ℕ → Effect
+  completed : Completion → Effect
+  passed : ℕ → Effect
+  clockSet : ℕ → Effect
+  poweredUp : Effect
+  nothing : Effect
+
+abbrev pub ifAccepted : Option ℕ → Effect → Effect
+ifAccepted (some n) e = nothing
+ifAccepted none e = e
+
+abbrev pub asked : Call → Effect
+asked (settings s) = configured s
+asked (completion c) = completed c
+asked (elapsed ms) = passed ms
+asked (clock value) = clockSet value
+asked powerUp = poweredUp
+asked (page length) = nothing
+asked (settingsBack length) = nothing
+
+-- Accepted: turned away by no rule. A call that is refused does nothing.
+abbrev pub effectOf : Call → Effect
+effectOf c = ifAccepted (refusalOf c) (asked c)
+
+-- what was done before a place, the newest first
+abbrev pub Past : Type 0
+Past = List Effect
+
+abbrev pub pastOf : History → Past
+pastOf h = map effectOf h
+
+-- what each effect brings: settings, a completion, elapsed time; and the clock: set to a value, or by power-up to none
+abbrev pub settingsIn : Effect → Option (List ℕ)
+settingsIn (configured s) = some s
+settingsIn (completed c) = none
+settingsIn (passed ms) = none
+settingsIn (clockSet value) = none
+settingsIn poweredUp = none
+settingsIn nothing = none
+
+abbrev pub completionIn : Effect → Option Completion
+completionIn (configured s) = none
+completionIn (completed c) = some c
+completionIn (passed ms) = none
+completionIn (clockSet value) = none
+completionIn poweredUp = none
+completionIn nothing = none
+
+abbrev pub elapsedIn : Effect → Option ℕ
+elapsedIn (configured s) = none
+elapsedIn (completed c) = none
+elapsedIn (passed ms) = some ms
+elapsedIn (clockSet value) = none
+elapsedIn poweredUp = none
+elapsedIn nothing = none
+
+abbrev pub clockIn : Effect → Option (Option ℕ)
+clockIn (configured s) = none
+clockIn (completed c) = none
+clockIn (passed ms) = none
+clockIn (clockSet value) = some (some value)
+clockIn poweredUp = some none
+clockIn nothing = none
+
+-- f of what is there, else a default
+abbrev pub found : {A B : Type 0} → B → (A → B) → Option A → B
+found default f none = default
+found default f (some x) = f x
+
+-- what f finds at the latest place where it finds anything
+abbrev pub orElse : {A : Type 0} → Option A → Option A → Option A
+orElse none earlier = earlier
+orElse (some x) earlier = some x
+
+unfoldable pub latest : {A : Type 0} → (Effect → Option A) → Past → Option A
+latest f [] = none
+latest f (e ∷ past) = orElse (f e) (latest f past)
+
+-- what f finds at each place since the latest effect that `start` names, the newest first
+abbrev pub andThen : {A : Type 0} → Option A → List A → List A
+andThen none earlier = earlier
+andThen (some x) earlier = x ∷ earlier
+
+unfoldable pub since : {A : Type 0} → (Effect → Bool) → (Effect → Past → Option A) → Past → List A
+since start f [] = []
+since start f (e ∷ past) = cond (start e) [] (andThen (f e past) (since start f past))
