@@ -10,6 +10,7 @@ use Rattle.logpage.specs.declared.DebugLog.{DebugLog}
 use Rattle.logpage.specs.declared.Settings.{Settings}
 use Rattle.logpage.specs.declared.Window.{Window}
 use Rattle.monitor.specs.declared.commands.Completion.{Completion}
+use Rattle.monitor.specs.declared.record.Monitor.{Monitor}
 use Rattle.monitor.specs.Commands.{counterOf, millisecondsOf}
 use Rattle.monitor.specs.Counting.{bit, debugLog}
 use Rattle.monitor.specs.History.{Effect, Past, settingsIn, completionIn, elapsedIn, clockIn, found, latest, since}
@@ -53,7 +54,8 @@ abbrev pub enables : Effect → Bool
 enables e = found false (λ s. decoded s .enabled) (settingsIn e)
 
 abbrev enabledThreshold : Effect → Option ℕ
-enabledThreshold e = cond (enables e) (found none (λ s. some (decoded s .«timer_threshold»)) (settingsIn e)) none
+enabledThreshold e =
+    found none (λ s. cond (decoded s .enabled) (some (decoded s .«timer_threshold»)) none) (settingsIn e)
 
 -- Take the settings with enable 1 last accepted, p their timer threshold.
 unfoldable pub threshold : Past → ℕ
@@ -61,7 +63,7 @@ threshold past = found 0 (λ p. p) (latest enabledThreshold past)
 
 -- t: the time while enabled from them to a later place
 abbrev pub whileEnabled : Effect → Past → Option ℕ
-whileEnabled e past = cond (inForce past .enabled) (elapsedIn e) none
+whileEnabled e past = found none (λ ms. cond (inForce past .enabled) (some ms) none) (elapsedIn e)
 
 unfoldable pub enabledTime : Past → ℕ
 enabledTime past = sum (since enables whileEnabled past)
@@ -174,3 +176,22 @@ logOf x = debugLog (x .counter) (clockAt (x .before)) (millisecondsOf (x .comman
 
 unfoldable pub debugAt : Past → DebugLog
 debugAt past = found noDebugLog logOf (first (those triggered (since discards countedAt past)))
+
+-- the time in the running window when a stamp was loaded: the record keeps it for the minimum window
+abbrev pub loadedOf : Option Counted → ℕ
+loadedOf load = found 0 (λ x. enabledTime (x .before) % (300000 * threshold (x .before))) load
+
+-- the record that the facts describe
+unfoldable pub recordOf : Past → Monitor
+recordOf past =
+    record {
+      settings = inForce past;
+      timer = timerAt past;
+      host = hostSet past;
+      partial = enabledTime past % 300000;
+      clock = clockAt past;
+      loaded = each (λ n. loadedOf (lastLoad (active past n)));
+      debug = debugAt past;
+      «static_window» = windowOf (static past);
+      «active_window» = windowOf (active past);
+    }

@@ -7,3 +7,4 @@ pub mod Answers
 pub mod Record
 pub mod History
 pub mod Facts
+pub mod Claims

@@ -10,7 +10,7 @@ use Rattle.logpage.specs.declared.Settings.{Settings}
 use Rattle.monitor.specs.Settings.{discard, enable, decoded}
 
 -- Within a call the earliest row wins, and no call is turned away otherwise.
-abbrev row : ℕ → Bool → Option ℕ → Option ℕ
+abbrev pub row : ℕ → Bool → Option ℕ → Option ℕ
 row n true later = some n
 row n false later = later
 

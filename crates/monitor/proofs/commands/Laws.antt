@@ -102,3 +102,14 @@ pub counter-below : (s : Settings) (c : Completion) (n : ℕ) → counterOf s c 
 unfolding counterOf bucketOf
 counter-below s c n e =
     inside (rw e at (either (s .enabled) (at-below (bucket-below (s .thresholds) (c .latency) 4) (kind-below c)) absent))
+
+-- With the monitor disabled it is not counted.
+pub counter-enabled : (s : Settings) (c : Completion) (n : ℕ) → counterOf s c ≡ some n → s .enabled ≡ true
+unfolding counterOf
+counter-enabled s c n e = by (s .enabled) refl
+  where
+    by : (t : Bool) → s .enabled ≡ t → t ≡ true
+    by true h = refl
+    by false h =
+        let nowhere : _≡_ {A = Option ℕ} none (some n) = rw (h, counterOf) at e in
+        let never : _≡_ {A = ℕ} 0 1 = cc in absurd (omega arith)

@@ -7,7 +7,7 @@ use Prim.Native.Nat.{ℕ}
 use native.Mathlib.Omega.{arith}
 use lib.Dec.{eqb}
 use lib.ListN.{length, drop}
-use borrow.Author.Tests.{eq-eqb, ne-eqb, eqb-true}
+use borrow.Author.Tests.{eq-eqb, ne-eqb}
 use Rattle.endian.specs.Bytes.{anySet}
 use Rattle.logpage.specs.declared.Settings.{Settings}
 use Rattle.monitor.specs.Answers.{done, refused, unlessRefused}
@@ -23,17 +23,6 @@ not-refused (some n) e = cc
 pub refused-by : (r : Option ℕ) (n : ℕ) → refused n ≡ unlessRefused r done → r ≡ some n
 refused-by none n e = let never : _≡_ {A = ℕ} 0 1 = cc in absurd (omega arith)
 refused-by (some k) n e = cc
-
--- accepted settings are 4,096 bytes
-pub accepted-length : (s : List ℕ) → settingsRefusal s ≡ none → length s ≡ 4096
-unfolding settingsRefusal
-accepted-length s e = by (eqb (length s) 4096) refl
-  where
-    by : (t : Bool) → eqb (length s) 4096 ≡ t → length s ≡ 4096
-    by true h = eqb-true (length s) 4096 h
-    by false h =
-        let refused-at : _≡_ {A = Option ℕ} (some 1) none = rw (h, settingsRefusal) at e in
-        let never : _≡_ {A = ℕ} 0 1 = cc in absurd (omega arith)
 
 module _ (s : List ℕ) where
   pub length-refused : (length s ≡ 4096 → ⊥) → refused 1 ≡ unlessRefused (settingsRefusal s) done

@@ -4,7 +4,8 @@ use mathlib.Core.Option.{none}
 use native.Mathlib.Omega.{arith}
 use Rattle.monitor.specs.Answers.{saysAnswer}
 use Rattle.monitor.specs.Refusals.{settingsRefusal}
-use Rattle.monitor.proofs.settings.Laws.{not-refused, accepted-length}
+use Rattle.monitor.proofs.refusals.Laws.{accepted as accepted-settings}
+use Rattle.monitor.proofs.settings.Laws.{not-refused}
 use Rattle.monitor.proofs.record.Laws.{settings-refused, settings-accepted}
 use borrow.Author.Needs.{needs}
 use Rattle.monitor.proofs.record.Monitor.configure.Statement.{statement}
@@ -24,10 +25,10 @@ accepted : (c : tie.After-enum-told) → settingsRefusal (c .before .before .bef
 accepted c = not-refused _ (sym (ap saysAnswer (c .enum-told .given .1)) ∙ c .before .before .check .ensures)
 
 decode-requires : tie.Need-decode-requires
-decode-requires c κs = omega (arith, accepted-length _ (accepted c))
+decode-requires c κs = omega (arith, accepted-settings _ (accepted c) .whole)
 
 shared-slice-read-after-discard : tie.Need-shared-slice-read-after-discard
-shared-slice-read-after-discard c = omega (arith, accepted-length _ (accepted (c .before .before)))
+shared-slice-read-after-discard c = omega (arith, accepted-settings _ (accepted (c .before .before)) .whole)
 
 after-discard-requires : tie.Need-after-discard-requires
 after-discard-requires c κs = search needs

@@ -1,0 +1,6 @@
+pub mod Lists
+pub mod Windows
+pub mod Facts
+pub mod Completions
+pub mod Elapsed
+pub mod Play

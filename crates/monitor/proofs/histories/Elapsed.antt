@@ -1,0 +1,167 @@
+-- Elapsed time makes of the record that the facts describe the one that they describe after it.
+use Prim.Native.Nat.{ℕ, suc, _+_, _*_, _-_, _/_, _%_, _≤_, _<_, min}
+use mathlib.Core.Path.{_≡_, refl, sym, ap, _∙_}
+use mathlib.Core.Bool.{Bool, true, false, cond, _&&_}
+use mathlib.Core.List.{List, [], _∷_}
+use mathlib.Core.Option.{Option, none, some}
+use native.Mathlib.Numerals.{add-one}
+use native.Mathlib.Omega.{arith}
+use lib.Dec.{eqb, leb, ltb, eqb·suc-suc}
+use lib.ListN.{length, replicate}
+use borrow.Author.Tests.{ne-eqb, lt-ltb, le-ltb, le-leb, lt-leb, leb-true, leb-false, ltb-true, ltb-false}
+use Rattle.logpage.specs.Fields.{emptyWindow}
+use Rattle.monitor.specs.declared.record.Monitor.{Monitor}
+use Rattle.monitor.specs.declared.timer.Tick.{Tick}
+use Rattle.monitor.specs.Facts.{inForce, sum, clockAt, hostSet, enables, threshold, enabledTime, windowAt, timerAt, Counted, countedAt, those, activeFor, active, static, countOf, lastLoad, stampOf, latencyOf, unitsOf, loadedOf, each, windowOf, debugAt, recordOf}
+use Rattle.monitor.specs.History.{passed, Past, latest, since}
+use Rattle.monitor.specs.Record.{noLoads, afterElapsed}
+use Rattle.monitor.specs.Timer.{grown, tick, ticked}
+use Rattle.monitor.proofs.record.Laws.{moved, elapsed-accepted}
+use Rattle.monitor.proofs.histories.Facts.{Good, Fine, fine, span, enabled-threshold, enabled-positive, within, preceding, described}
+use Rattle.monitor.proofs.histories.Lists.{All, from-same, from-replicate, those-same, those-none}
+use Rattle.monitor.proofs.histories.Windows.{none-taken, none-partial, none-window, one-taken, one-partial, goes-on, ends, ends-timer, one-more}
+
+-- the facts after time that brought the time while enabled to t
+abbrev after-time : Past → ℕ → ℕ → Monitor
+after-time past ms t =
+    described (inForce past) (t / 300000 - t / span past * threshold past) (hostSet past) (t % 300000) (grown (clockAt past) ms)
+    (debugAt past) (t / span past) (since enables countedAt past)
+
+time-after :
+    (past : Past) (ms : ℕ) (b : Bool) →
+    inForce past .enabled ≡ b →
+    enabledTime (passed ms ∷ past) ≡ cond b (enabledTime past + ms) (enabledTime past)
+unfolding enabledTime since sum
+time-after past ms true e = rw e
+time-after past ms false e = rw e
+
+clock-after : (past : Past) (ms : ℕ) → clockAt (passed ms ∷ past) ≡ grown (clockAt past) ms
+unfolding clockAt latest since sum
+clock-after past ms = omega arith
+
+facts-after : (past : Past) (ms : ℕ) → recordOf (passed ms ∷ past) ≡ after-time past ms (enabledTime (passed ms ∷ past))
+unfolding recordOf inForce hostSet timerAt windowAt threshold active static debugAt latest since
+facts-after past ms =
+    ap (λ n. described (inForce past) (timerAt (passed ms ∷ past)) (hostSet past) (enabledTime (passed ms ∷ past) % 300000) n (debugAt past) (windowAt (passed ms ∷ past)) (since enables countedAt past))
+    (clock-after past ms)
+
+-- what a window's end makes of what is asked of each counter's completions
+module _ (past : Past) (g : Good past) {A : Type 0} (f : List Counted → A) where
+  emptied : replicate 12 (f []) ≡ each (λ k. f (those (within (suc (windowAt past)) k) (since enables countedAt past)))
+  emptied = sym (from-replicate 0 12 _ (f []) (λ k. ap f (nothing-late k)))
+    where
+      late : (k : ℕ) (x : Counted) → Fine past x → within (suc (windowAt past)) k x ≡ false
+      late k x h = rw (ne-eqb (windowAt (x .before)) (suc (windowAt past)) (λ e. omega (arith, h .early)))
+
+      nothing-late : (k : ℕ) → those (within (suc (windowAt past)) k) (since enables countedAt past) ≡ []
+      nothing-late k = those-none (within (suc (windowAt past)) k) (Fine past) (late k) (since enables countedAt past) (fine past g)
+
+handed-on : (past : Past) → Good past → (k : ℕ) → active past k ≡ those (preceding (suc (windowAt past)) k) (since enables countedAt past)
+unfolding active
+handed-on past g k =
+    those-same (activeFor past k) (Fine past) (preceding (suc (windowAt past)) k) (λ x h. rw (add-one, eqb·suc-suc (windowAt (x .before)) (windowAt past)))
+    (since enables countedAt past) (fine past g)
+
+empty-handed : (past : Past) → Good past → emptyWindow ≡ windowOf (λ k. those (within (suc (windowAt past)) k) (since enables countedAt past))
+unfolding emptyWindow countOf lastLoad
+empty-handed past g =
+    λ i. record {
+      counters = emptied past g countOf i;
+      stamps = emptied past g (λ xs. stampOf (lastLoad xs)) i;
+      latencies = emptied past g (λ xs. latencyOf (lastLoad xs)) i;
+      units = emptied past g (λ xs. unitsOf (lastLoad xs)) i;
+    }
+
+no-loads : (past : Past) → Good past → noLoads ≡ each (λ k. loadedOf (lastLoad (those (within (suc (windowAt past)) k) (since enables countedAt past))))
+unfolding lastLoad
+no-loads past g = emptied past g (λ xs. loadedOf (lastLoad xs))
+
+-- the timer's cases
+module _ (threshold timer partial ms : ℕ) where
+  tick-off : tick timer partial false ≡ ticked false threshold timer partial ms
+  unfolding ticked
+  tick-off = refl
+
+  tick-few : partial + ms < 300000 → tick timer (partial + ms) false ≡ ticked true threshold timer partial ms
+  unfolding ticked
+  tick-few few = rw (lt-ltb _ _ few)
+
+  module _ (many : 300000 ≤ partial + ms) where
+    tick-more : timer + 1 < threshold → tick (timer + 1) (partial + ms - 300000) false ≡ ticked true threshold timer partial ms
+    unfolding ticked
+    tick-more less = rw (le-ltb _ _ many, lt-leb _ _ less)
+
+    tick-end : threshold ≤ timer + 1 → tick 0 (partial + ms - 300000) true ≡ ticked true threshold timer partial ms
+    unfolding ticked
+    tick-end reached = rw (le-ltb _ _ many, le-leb _ _ reached)
+
+module _ (past : Past) (g : Good past) (ms : ℕ) (fits : ms ≤ 300000) where
+  abbrev t : ℕ
+  t = enabledTime past
+
+  abbrev p : ℕ
+  p = threshold past
+
+  -- the record's own step, once the timer's is known
+  moves :
+      (next : Tick) (expired : Bool) →
+      next ≡ ticked (inForce past .enabled) (inForce past .«timer_threshold») (timerAt past) (t % 300000) ms →
+      next .expired ≡ expired →
+      afterElapsed (recordOf past) ms ≡ moved (recordOf past) (grown (clockAt past) ms) next expired
+  unfolding recordOf
+  moves next expired e q = sym (elapsed-accepted (recordOf past) ms (grown (clockAt past) ms) next expired fits e refl q .0)
+
+  off : inForce past .enabled ≡ false → afterElapsed (recordOf past) ms ≡ after-time past ms t
+  unfolding recordOf timerAt windowAt active static
+  off e = moves (tick (timerAt past) (t % 300000) false) false (rw e (tick-off _ (timerAt past) (t % 300000) ms)) refl
+
+  module _ (on : inForce past .enabled ≡ true) where
+    positive : 0 < p
+    positive = enabled-positive past g on
+
+    few : t % 300000 + ms < 300000 → afterElapsed (recordOf past) ms ≡ after-time past ms (t + ms)
+    unfolding recordOf timerAt windowAt active static
+    few h =
+        moves (tick (timerAt past) (t % 300000 + ms) false) false (rw on (tick-few _ (timerAt past) (t % 300000) ms h)) refl ∙
+        (rw (none-window t ms p positive h, none-partial t ms p positive h, none-taken t ms p positive h))
+
+    module _ (many : 300000 ≤ t % 300000 + ms) where
+      more : timerAt past + 1 < p → afterElapsed (recordOf past) ms ≡ after-time past ms (t + ms)
+      unfolding recordOf timerAt windowAt active static
+      more h =
+          moves (tick (timerAt past + 1) (t % 300000 + ms - 300000) false) false
+          (rw (on, enabled-threshold past on) (tick-more p (timerAt past) (t % 300000) ms many h)) refl ∙
+          (rw (goes-on t ms fits many p positive h, one-partial t ms fits many, one-taken t ms fits many, one-more t p))
+
+      end : p ≤ timerAt past + 1 → afterElapsed (recordOf past) ms ≡ after-time past ms (t + ms)
+      unfolding recordOf timerAt windowAt
+      end h =
+          moves (tick 0 (t % 300000 + ms - 300000) true) true
+          (rw (on, enabled-threshold past on) (tick-end p (timerAt past) (t % 300000) ms many h)) refl ∙
+          (rw (ends-timer t ms fits many p positive h, ends t ms fits many p positive h, one-partial t ms fits many)
+          (λ i. record {
+            settings = inForce past;
+            timer = 0;
+            host = hostSet past;
+            partial = t % 300000 + ms - 300000;
+            clock = grown (clockAt past) ms;
+            loaded = no-loads past g i;
+            debug = debugAt past;
+            «static_window» = windowOf (λ k. handed-on past g k i);
+            «active_window» = empty-handed past g i;
+          }))
+
+    step : (b : Bool) → leb 300000 (t % 300000 + ms) ≡ b → afterElapsed (recordOf past) ms ≡ after-time past ms (t + ms)
+    step false q = few (leb-false _ _ q)
+    step true q = by (leb p (timerAt past + 1)) refl
+      where
+        by : (b : Bool) → leb p (timerAt past + 1) ≡ b → afterElapsed (recordOf past) ms ≡ after-time past ms (t + ms)
+        by false r = more (leb-true _ _ q) (leb-false _ _ r)
+        by true r = end (leb-true _ _ q) (leb-true _ _ r)
+
+  pub elapsed-step : afterElapsed (recordOf past) ms ≡ recordOf (passed ms ∷ past)
+  elapsed-step = by (inForce past .enabled) refl ∙ sym (facts-after past ms)
+    where
+      by : (b : Bool) → inForce past .enabled ≡ b → afterElapsed (recordOf past) ms ≡ after-time past ms (enabledTime (passed ms ∷ past))
+      by true on = rw (time-after past ms true on) (step on (leb 300000 (t % 300000 + ms)) refl)
+      by false e = rw (time-after past ms false e) (off e)

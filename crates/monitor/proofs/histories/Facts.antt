@@ -1,0 +1,165 @@
+-- What holds of the facts of accepted effects.
+use Prim.Native.Nat.{ℕ, _+_, _*_, _-_, _/_, _%_, _≤_, _<_}
+use mathlib.Core.Path.{_≡_, refl, sym, ap, _∙_}
+use mathlib.Core.Bool.{Bool, true, false, cond, _&&_, false≢true, true≢false}
+use mathlib.Core.List.{List, [], _∷_}
+use mathlib.Core.Option.{Option, none, some}
+use native.Mathlib.Nat.{div-add-mod'}
+use native.Mathlib.Omega.{arith}
+use borrow.Author.Tests.{eqb-true}
+use lib.Dec.{eqb}
+use Rattle.logpage.specs.Fields.{noSettings}
+use Rattle.logpage.specs.declared.DebugLog.{DebugLog}
+use Rattle.logpage.specs.declared.Settings.{Settings}
+use Rattle.monitor.specs.declared.record.Monitor.{Monitor}
+use Rattle.monitor.specs.Commands.{counterOf}
+use Rattle.monitor.specs.Facts.{inForce, sum, time, clockAt, hostSet, enables, threshold, enabledTime, windowAt, timerAt, Counted, countedAt, those, activeFor, active, static, orLoad, loadsAfter, lastLoad, loadedOf, each, windowOf, debugAt, recordOf}
+use Rattle.monitor.specs.History.{Effect, configured, completed, passed, clockSet, poweredUp, nothing, Past, found, latest, since, andThen, settingsIn}
+use Rattle.monitor.specs.Settings.{decoded}
+use Rattle.monitor.proofs.histories.Lists.{All, Some, all-map}
+use Rattle.monitor.proofs.histories.Windows.{later}
+
+-- what acceptance says of an effect
+abbrev pub Ok : Effect → Type 0
+Ok (configured s) = 0 < decoded s .«timer_threshold»
+Ok (completed c) = Unit {0}
+Ok (passed ms) = ms ≤ 300000
+Ok (clockSet value) = value ≤ 281474976710655
+Ok poweredUp = Unit {0}
+Ok nothing = Unit {0}
+
+abbrev pub Good : Past → Type 0
+Good [] = Unit {0}
+Good (e ∷ past) = Ok e × Good past
+
+-- while enabled, the settings in force are those with enable 1 last accepted
+pub enabled-threshold : (past : Past) → inForce past .enabled ≡ true → inForce past .«timer_threshold» ≡ threshold past
+unfolding inForce threshold latest noSettings
+enabled-threshold [] on = absurd (false≢true on)
+enabled-threshold (configured s ∷ past) on = rw on
+enabled-threshold (completed c ∷ past) on = enabled-threshold past on
+enabled-threshold (passed ms ∷ past) on = enabled-threshold past on
+enabled-threshold (clockSet value ∷ past) on = enabled-threshold past on
+enabled-threshold (poweredUp ∷ past) on = enabled-threshold past on
+enabled-threshold (nothing ∷ past) on = enabled-threshold past on
+
+pub enabled-positive : (past : Past) → Good past → inForce past .enabled ≡ true → 0 < threshold past
+unfolding inForce threshold latest noSettings
+enabled-positive [] g on = absurd (false≢true on)
+enabled-positive (configured s ∷ past) g on = rw on (g .0)
+enabled-positive (completed c ∷ past) g on = enabled-positive past (g .1) on
+enabled-positive (passed ms ∷ past) g on = enabled-positive past (g .1) on
+enabled-positive (clockSet value ∷ past) g on = enabled-positive past (g .1) on
+enabled-positive (poweredUp ∷ past) g on = enabled-positive past (g .1) on
+enabled-positive (nothing ∷ past) g on = enabled-positive past (g .1) on
+
+pub clock-top : (past : Past) → clockAt past ≤ 281474976710655
+unfolding clockAt
+clock-top past = omega arith
+
+-- the length of a window
+abbrev pub span : Past → ℕ
+span past = 300000 * threshold past
+
+-- the time in its window at a completion's place
+abbrev pub into : Counted → ℕ
+into x = enabledTime (x .before) % span (x .before)
+
+-- what holds of each counted completion since the monitor was enabled
+pub record Fine (past : Past) (x : Counted) : Type 0 where
+  pub early : windowAt (x .before) ≤ windowAt past
+  pub apart : inForce past .enabled ≡ true → windowAt (x .before) * span past + into x + time past ≡ time (x .before) + enabledTime past
+
+pub fine : (past : Past) → Good past → All (Fine past) (since enables countedAt past)
+unfolding since windowAt inForce time enabledTime threshold latest sum
+fine [] g = tt
+fine (configured s ∷ past) g = go (decoded s .enabled) refl (fine past (g .1))
+  where
+    go : (b : Bool) → decoded s .enabled ≡ b → All (Fine past) (since enables countedAt past) → All (Fine (configured s ∷ past)) (cond b [] (since enables countedAt past))
+    go true e f = tt
+    go false e f =
+        all-map (λ x k. record { early = rw e (k .early); apart = λ on. absurd (true≢false (sym on ∙ e)) }) (since enables countedAt past) f
+fine (completed c ∷ past) g = go (counterOf (inForce past) c) (fine past (g .1))
+  where
+    same : All (Fine past) (since enables countedAt past) → All (Fine (completed c ∷ past)) (since enables countedAt past)
+    same f = all-map (λ x k. record { early = k .early; apart = k .apart }) (since enables countedAt past) f
+
+    go : (n : Option ℕ) → All (Fine past) (since enables countedAt past) → All (Fine (completed c ∷ past)) (andThen (found none (λ m. some (record { counter = m; command = c; before = past })) n) (since enables countedAt past))
+    go none f = same f
+    go (some n) f =
+        (record { early = omega arith; apart = λ on. omega (arith, div-add-mod' (enabledTime past) (span past)) }, same f)
+fine (passed ms ∷ past) g = go (inForce past .enabled) refl (fine past (g .1))
+  where
+    go : (b : Bool) → inForce past .enabled ≡ b → All (Fine past) (since enables countedAt past) → All (Fine (passed ms ∷ past)) (since enables countedAt past)
+    go true q f =
+        all-map
+        (λ x k. record {
+          early = rw q (omega (arith, k .early, later (enabledTime past) ms (span past) (omega (arith, enabled-positive past (g .1) q))));
+          apart = λ on. rw q (omega (arith, k .apart on));
+        })
+        (since enables countedAt past) f
+    go false q f =
+        all-map (λ x k. record { early = rw q (k .early); apart = λ on. absurd (true≢false (sym on ∙ q)) }) (since enables countedAt past) f
+fine (clockSet value ∷ past) g =
+    all-map (λ x k. record { early = k .early; apart = k .apart }) (since enables countedAt past) (fine past (g .1))
+fine (poweredUp ∷ past) g =
+    all-map (λ x k. record { early = k .early; apart = k .apart }) (since enables countedAt past) (fine past (g .1))
+fine (nothing ∷ past) g =
+    all-map (λ x k. record { early = k .early; apart = k .apart }) (since enables countedAt past) (fine past (g .1))
+
+pub last-load-all : (P : Counted → Type 0) (xs : List Counted) → All P xs → Some P (lastLoad xs)
+unfolding lastLoad
+last-load-all P [] a = tt
+last-load-all P (x ∷ xs) a = go (lastLoad xs) (last-load-all P xs (a .1))
+  where
+    pick : (y : Counted) (b : Bool) → P y → Some P (cond b (some x) (some y))
+    pick y true k = a .0
+    pick y false k = k
+
+    go : (o : Option Counted) → Some P o → Some P (orLoad x o)
+    go none k = a .0
+    go (some y) k = pick y (loadsAfter x y) k
+
+and-left : (a b : Bool) → (a && b) ≡ true → a ≡ true
+and-left true b e = refl
+and-left false b e = e
+
+-- a completion of the active window: the time since it, as the record measures it
+abbrev pub Here : Past → Counted → Type 0
+Here past x = time past - time (x .before) ≡ enabledTime past % span past - into x
+
+pub here : (past : Past) → inForce past .enabled ≡ true → (n : ℕ) (x : Counted) → activeFor past n x ≡ true → Fine past x → Here past x
+unfolding windowAt
+here past on n x t f =
+    let w : windowAt (x .before) ≡ windowAt past = eqb-true (windowAt (x .before)) (windowAt past) (and-left _ _ t) in
+    omega (arith, f .apart on, ap (λ k. k * span past) w, div-add-mod' (enabledTime past) (span past))
+
+-- the completions of counter k in window w, and in the one before w
+abbrev pub within : ℕ → ℕ → Counted → Bool
+within w k x = eqb (windowAt (x .before)) w && eqb (x .counter) k
+
+abbrev pub preceding : ℕ → ℕ → Counted → Bool
+preceding w k x = eqb (windowAt (x .before) + 1) w && eqb (x .counter) k
+
+-- the record that facts describe, w the number of the active window, xs the completions counted since it was enabled
+abbrev pub described : Settings → (timer : ℕ) (host : Bool) (partial clock : ℕ) → DebugLog → (w : ℕ) (xs : List Counted) → Monitor
+described settings timer host partial clock debug w xs =
+    record {
+      settings = settings;
+      timer = timer;
+      host = host;
+      partial = partial;
+      clock = clock;
+      loaded = each (λ k. loadedOf (lastLoad (those (within w k) xs)));
+      debug = debug;
+      «static_window» = windowOf (λ k. those (preceding w k) xs);
+      «active_window» = windowOf (λ k. those (within w k) xs);
+    }
+
+pub as-described :
+    (past : Past) →
+    recordOf past ≡
+    described (inForce past) (timerAt past) (hostSet past) (enabledTime past % 300000) (clockAt past) (debugAt past) (windowAt past)
+    (since enables countedAt past)
+unfolding recordOf active static
+as-described past = refl
