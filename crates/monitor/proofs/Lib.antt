@@ -1,1 +1,2 @@
 pub mod histories
+pub mod Edges

@@ -4,3 +4,4 @@ pub mod Facts
 pub mod Completions
 pub mod Elapsed
 pub mod Play
+pub mod Bounds

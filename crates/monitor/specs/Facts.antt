@@ -53,7 +53,7 @@ hostSet past = found false (λ set. found false (λ value. true) set) (latest cl
 abbrev pub enables : Effect → Bool
 enables e = found false (λ s. decoded s .enabled) (settingsIn e)
 
-abbrev enabledThreshold : Effect → Option ℕ
+abbrev pub enabledThreshold : Effect → Option ℕ
 enabledThreshold e =
     found none (λ s. cond (decoded s .enabled) (some (decoded s .«timer_threshold»)) none) (settingsIn e)
 

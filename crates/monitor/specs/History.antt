@@ -2,7 +2,7 @@
 use mathlib.Core.Bool.{Bool, cond}
 use mathlib.Core.List.{List, [], _∷_, map}
 use mathlib.Core.Option.{Option, none, some}
-use Prim.Native.Nat.{ℕ}
+use Prim.Native.Nat.{ℕ, _<_}
 use Rattle.monitor.specs.declared.commands.Completion.{Completion}
 use Rattle.monitor.specs.declared.record.Monitor.{Monitor}
 use Rattle.monitor.specs.Record.{newMonitor, afterSettings, afterCompletion, afterElapsed, afterClock, afterPowerUp}
@@ -21,6 +21,24 @@ pub data Call : Type 0 where
 -- the calls from a new monitor on, the newest first: what stands behind a call is the history at its place
 abbrev pub History : Type 0
 History = List Call
+
+-- the settings of a history are bytes
+abbrev pub Bytes : List ℕ → Type 0
+Bytes [] = Unit {0}
+Bytes (b ∷ bs) = (b < 256) × Bytes bs
+
+abbrev pub BytesIn : Call → Type 0
+BytesIn (settings s) = Bytes s
+BytesIn (completion c) = Unit {0}
+BytesIn (elapsed ms) = Unit {0}
+BytesIn (clock value) = Unit {0}
+BytesIn powerUp = Unit {0}
+BytesIn (page length) = Unit {0}
+BytesIn (settingsBack length) = Unit {0}
+
+abbrev pub OfBytes : History → Type 0
+OfBytes [] = Unit {0}
+OfBytes (c ∷ h) = BytesIn c × OfBytes h
 
 -- what a call leaves of the record, by the call's own definition; page and settings back only read
 abbrev pub after : Call → Monitor → Monitor

@@ -7,4 +7,5 @@ pub mod Answers
 pub mod Record
 pub mod History
 pub mod Facts
+pub mod Edges
 pub mod Claims

@@ -54,12 +54,12 @@ module _ {A : Type 0} where
   length-from i (suc n) f = ap suc (length-from (suc i) n f)
 
 -- a fact of each entry
-abbrev pub All : (Counted → Type 0) → List Counted → Type 0
+abbrev pub All : {A : Type 0} → (A → Type 0) → List A → Type 0
 All P [] = Unit {0}
 All P (x ∷ xs) = P x × All P xs
 
 -- a fact of what is there
-abbrev pub Some : (Counted → Type 0) → Option Counted → Type 0
+abbrev pub Some : {A : Type 0} → (A → Type 0) → Option A → Type 0
 Some P none = Unit {0}
 Some P (some x) = P x
 

@@ -1,0 +1,13 @@
+-- The table of edges: each row is computed.
+use mathlib.Core.Path.{refl}
+use Rattle.logpage.specs.Fields.{emptyWindow, noDebugLog}
+use Rattle.monitor.specs.Commands.{kindOf, highestBelow, bucketOf, counterOf, millisecondsOf}
+use Rattle.monitor.specs.Counting.{loads, countedIn, triggers}
+use Rattle.monitor.specs.Edges.{elapsedReplies, EdgesHold}
+use Rattle.monitor.specs.Record.{afterCompletion, completionReply, afterElapsed, elapsedReply}
+use Rattle.monitor.specs.Refusals.{elapsedRefusal}
+use Rattle.monitor.specs.Timer.{ticked}
+
+pub edges-hold : EdgesHold
+unfolding completionReply afterCompletion counterOf bucketOf highestBelow kindOf millisecondsOf loads triggers countedIn elapsedReplies elapsedReply afterElapsed elapsedRefusal ticked emptyWindow noDebugLog
+edges-hold = (refl, (refl, (refl, (refl, (refl, (refl, (refl, (refl, (refl, (refl, tt))))))))))

@@ -1,0 +1,216 @@
+-- The facts of a history of bytes fit their fields of the page.
+use Prim.Native.Nat.{ℕ, zero, suc, _+_, _*_, _-_, _/_, _≤_, _<_, _^_, min}
+use mathlib.Core.Path.{_≡_, refl, sym, ap, _∙_}
+use mathlib.Core.Bool.{Bool, true, false, cond}
+use mathlib.Core.List.{List, [], _∷_}
+use mathlib.Core.Option.{Option, none, some}
+use native.Mathlib.Decide.{decLt}
+use native.Mathlib.Omega.{arith}
+use lib.ListN.{getD, length}
+use lib.Pow.{pow-lt}
+use Rattle.logpage.specs.Fields.{unset, noSettings, noDebugLog}
+use Rattle.logpage.specs.declared.DebugLog.{DebugLog}
+use Rattle.logpage.specs.declared.Settings.{Settings}
+use Rattle.monitor.specs.declared.commands.Completion.{Completion}
+use Rattle.monitor.specs.Commands.{counterOf, millisecondsOf}
+use Rattle.monitor.specs.Facts.{inForce, sum, clockAt, enables, enabledThreshold, threshold, enabledTime, whileEnabled, windowAt, timerAt, Counted, countedAt, those, countOf, lastLoad, stampOf, latencyOf, triggered, discards, orFirst, first, logOf, debugAt}
+use Rattle.monitor.specs.History.{Call, settings, completion, elapsed, clock, powerUp, page, settingsBack, History, Bytes, BytesIn, OfBytes, Effect, configured, completed, passed, clockSet, poweredUp, nothing, ifAccepted, asked, refusalOf, effectOf, Past, pastOf, settingsIn, completionIn, found, orElse, latest, andThen, since}
+use Rattle.monitor.specs.Settings.{decoded}
+use Rattle.monitor.proofs.commands.Laws.{counter-below}
+use Rattle.monitor.proofs.histories.Facts.{Good, enabled-positive, clock-top}
+use Rattle.monitor.proofs.histories.Lists.{All, Some, all-those}
+use Rattle.monitor.proofs.histories.Windows.{low, high}
+
+-- what the latest place finds, and what is found since a place, have what each place finds
+module _ {A : Type 0} (P : A → Type 0) where
+  pub latest-some : (f : Effect → Option A) (past : Past) → All (λ e. Some P (f e)) past → Some P (latest f past)
+  unfolding latest
+  latest-some f [] a = tt
+  latest-some f (e ∷ past) a = by (f e) (a .0) (latest-some f past (a .1))
+    where
+      by : (o : Option A) → Some P o → Some P (latest f past) → Some P (orElse o (latest f past))
+      by none k earlier = earlier
+      by (some x) k earlier = k
+
+  pub since-all : (start : Effect → Bool) (f : Effect → Past → Option A) → ((e : Effect) (past : Past) → Some P (f e past)) → (past : Past) → All P (since start f past)
+  unfolding since
+  since-all start f k [] = tt
+  since-all start f k (e ∷ past) = by (start e) (f e past) (k e past) (since-all start f k past)
+    where
+      by : (b : Bool) (o : Option A) → Some P o → All P (since start f past) → All P (cond b [] (andThen o (since start f past)))
+      by true o q earlier = tt
+      by false none q earlier = earlier
+      by false (some x) q earlier = (q, earlier)
+
+-- settings made of bytes
+byte-at : (s : List ℕ) → Bytes s → (i : ℕ) → getD s i 0 < 256
+byte-at [] b i = omega arith
+byte-at (x ∷ s) b zero = b .0
+byte-at (x ∷ s) b (suc i) = byte-at s (b .1) i
+
+pub record Narrow (s : Settings) : Type 0 where
+  pub timer-threshold : s .«timer_threshold» < 65536
+  pub mode : s .mode < 65536
+  pub trigger : s .trigger < 65536
+  pub four : length (s .thresholds) ≡ 4
+  pub thresholds : (i : ℕ) → getD (s .thresholds) i 0 < 256
+  pub minimum-window : s .«minimum_window» < 256
+
+narrow : (s : List ℕ) → Bytes s → Narrow (decoded s)
+unfolding decoded
+narrow s b =
+    record {
+      timer-threshold = omega (arith, byte-at s b 0, byte-at s b 1);
+      mode = omega (arith, byte-at s b 6, byte-at s b 7);
+      trigger = omega (arith, byte-at s b 9, byte-at s b 10);
+      four = refl;
+      thresholds = byte-at (getD s 2 0 ∷ getD s 3 0 ∷ getD s 4 0 ∷ getD s 5 0 ∷ []) (byte-at s b 2, (byte-at s b 3, (byte-at s b 4, (byte-at s b 5, tt))));
+      minimum-window = byte-at s b 8;
+    }
+
+none-narrow : Narrow noSettings
+unfolding noSettings
+none-narrow =
+    record {
+      timer-threshold = omega arith;
+      mode = omega arith;
+      trigger = omega arith;
+      four = refl;
+      thresholds = byte-at (0 ∷ 0 ∷ 0 ∷ 0 ∷ []) (omega arith, (omega arith, (omega arith, (omega arith, tt))));
+      minimum-window = omega arith;
+    }
+
+-- the settings of a history are made of bytes
+pub bytes-past : (h : History) → OfBytes h → All (λ e. Some Bytes (settingsIn e)) (pastOf h)
+bytes-past [] b = tt
+bytes-past (c ∷ h) b = (by (refusalOf c) (bytes-asked c (b .0)), bytes-past h (b .1))
+  where
+    bytes-asked : (d : Call) → BytesIn d → Some Bytes (settingsIn (asked d))
+    bytes-asked (settings s) k = k
+    bytes-asked (completion d) k = tt
+    bytes-asked (elapsed ms) k = tt
+    bytes-asked (clock value) k = tt
+    bytes-asked powerUp k = tt
+    bytes-asked (page length) k = tt
+    bytes-asked (settingsBack length) k = tt
+
+    by : (r : Option ℕ) → Some Bytes (settingsIn (asked c)) → Some Bytes (settingsIn (ifAccepted r (asked c)))
+    by none k = k
+    by (some n) k = tt
+
+module _ (past : Past) (bytes : All (λ e. Some Bytes (settingsIn e)) past) where
+  pub in-force-narrow : Narrow (inForce past)
+  unfolding inForce
+  in-force-narrow = by (latest settingsIn past) (latest-some Bytes settingsIn past bytes)
+    where
+      by : (o : Option (List ℕ)) → Some Bytes o → Narrow (found noSettings decoded o)
+      by none k = none-narrow
+      by (some s) k = narrow s k
+
+  threshold-below : threshold past < 65536
+  unfolding threshold
+  threshold-below = by (latest enabledThreshold past) (latest-some (λ p. p < 65536) enabledThreshold past (each-below past bytes))
+    where
+      of-settings : (s : List ℕ) → Bytes s → (b : Bool) → Some (λ p. p < 65536) (cond b (some (decoded s .«timer_threshold»)) none)
+      of-settings s k true = narrow s k .timer-threshold
+      of-settings s k false = tt
+
+      of-effect : (o : Option (List ℕ)) → Some Bytes o → Some (λ p. p < 65536) (found none (λ s. cond (decoded s .enabled) (some (decoded s .«timer_threshold»)) none) o)
+      of-effect none k = tt
+      of-effect (some s) k = of-settings s k (decoded s .enabled)
+
+      each-below : (q : Past) → All (λ e. Some Bytes (settingsIn e)) q → All (λ e. Some (λ p. p < 65536) (enabledThreshold e)) q
+      each-below [] k = tt
+      each-below (e ∷ q) k = (of-effect (settingsIn e) (k .0), each-below q (k .1))
+
+      by : (o : Option ℕ) → Some (λ p. p < 65536) o → found 0 (λ p. p) o < 65536
+      by none k = omega arith
+      by (some p) k = k
+
+-- without settings with enable 1 no time is measured
+unstarted : (past : Past) → Good past → threshold past ≡ 0 → enabledTime past ≡ 0
+unfolding threshold enabledTime since latest sum
+unstarted [] g z = refl
+unstarted (configured s ∷ past) g z = by (decoded s .enabled) z (unstarted past (g .1))
+  where
+    by : (b : Bool) → found 0 (λ p. p) (orElse (cond b (some (decoded s .«timer_threshold»)) none) (latest enabledThreshold past)) ≡ 0 → (threshold past ≡ 0 → enabledTime past ≡ 0) → sum (cond b [] (since enables whileEnabled past)) ≡ 0
+    by true y k = refl
+    by false y k = k y
+unstarted (completed c ∷ past) g z = unstarted past (g .1) z
+unstarted (passed ms ∷ past) g z = by (inForce past .enabled) refl (unstarted past (g .1) z)
+  where
+    by : (b : Bool) → inForce past .enabled ≡ b → enabledTime past ≡ 0 → sum (andThen (cond b (some ms) none) (since enables whileEnabled past)) ≡ 0
+    by true on k = absurd (omega (arith, enabled-positive past (g .1) on, z))
+    by false on k = k
+unstarted (clockSet value ∷ past) g z = unstarted past (g .1) z
+unstarted (poweredUp ∷ past) g z = unstarted past (g .1) z
+unstarted (nothing ∷ past) g z = unstarted past (g .1) z
+
+pub timer-below : (past : Past) → Good past → All (λ e. Some Bytes (settingsIn e)) past → timerAt past < 65536
+unfolding timerAt windowAt
+timer-below past g bytes = by (decLt 0 (threshold past))
+  where
+    by : Dec (0 < threshold past) → enabledTime past / 300000 - enabledTime past / (300000 * threshold past) * threshold past < 65536
+    by (yes h) = omega (arith, high (enabledTime past) (threshold past) h, threshold-below past bytes)
+    by (no h) = omega (arith, unstarted past g (omega arith))
+
+-- what a window shows
+pub count-below : (xs : List Counted) → countOf xs < 4294967296
+unfolding countOf
+count-below xs = omega arith
+
+pub stamp-below : (load : Option Counted) → stampOf load < 18446744073709551616
+stamp-below none = omega arith
+stamp-below (some x) = omega (arith, clock-top (x .before))
+
+ms-below : (c : Completion) → millisecondsOf c < 65536
+unfolding millisecondsOf
+ms-below c = omega arith
+
+pub latency-below : (load : Option Counted) → latencyOf load < 65536
+latency-below none = omega arith
+latency-below (some x) = ms-below (x .command)
+
+-- the debug log
+abbrev OfTwelve : Counted → Type 0
+OfTwelve x = x .counter < 12
+
+few : (e : Effect) (past : Past) → Some OfTwelve (countedAt e past)
+few e past = by (completionIn e)
+  where
+    named : (c : Completion) (o : Option ℕ) → counterOf (inForce past) c ≡ o → Some OfTwelve (found none (λ n. some (record { counter = n; command = c; before = past })) o)
+    named c none q = tt
+    named c (some n) q = counter-below (inForce past) c n q
+
+    by : (o : Option Completion) → Some OfTwelve (found none (λ c. found none (λ n. some (record { counter = n; command = c; before = past })) (counterOf (inForce past) c)) o)
+    by none = tt
+    by (some c) = named c (counterOf (inForce past) c) refl
+
+first-some : (P : Counted → Type 0) (xs : List Counted) → All P xs → Some P (first xs)
+unfolding first
+first-some P [] a = tt
+first-some P (x ∷ xs) a = by (first xs) (first-some P xs (a .1))
+  where
+    by : (o : Option Counted) → Some P o → Some P (orFirst x o)
+    by none k = a .0
+    by (some y) k = k
+
+pub record NarrowLog (d : DebugLog) : Type 0 where
+  pub stamp : d .stamp < 18446744073709551616
+  pub latency : d .latency < 65536
+  pub source : d .source < 65536
+
+pub debug-narrow : (past : Past) → NarrowLog (debugAt past)
+unfolding debugAt noDebugLog
+debug-narrow past =
+    by (first (those triggered (since discards countedAt past)))
+    (first-some OfTwelve _ (all-those triggered (λ x t k. k) _ (since-all OfTwelve discards countedAt few past)))
+  where
+    by : (o : Option Counted) → Some OfTwelve o → NarrowLog (found noDebugLog logOf o)
+    by none k = record { stamp = omega arith; latency = omega arith; source = omega arith }
+    by (some x) k =
+        record {
+          stamp = omega (arith, clock-top (x .before));
+          latency = ms-below (x .command);
+          source = omega (arith, pow-lt k);
+        }

@@ -1,0 +1,93 @@
+-- 'At the edges': the cases that are marked P.
+use mathlib.Core.Path.{_≡_}
+use mathlib.Core.Bool.{Bool, true, false}
+use mathlib.Core.List.{List, [], _∷_}
+use mathlib.Core.Option.{Option, none, some}
+use Prim.Native.Nat.{ℕ, _*_}
+use lib.ListN.{getD, replicate}
+use Rattle.logpage.specs.Fields.{emptyWindow, noDebugLog}
+use Rattle.monitor.specs.declared.commands.Completion.{Completion}
+use Rattle.monitor.specs.declared.record.Monitor.{Monitor}
+use Rattle.monitor.specs.Answers.{Reply, notCounted, counted, ended}
+use Rattle.monitor.specs.Record.{noLoads, afterCompletion, completionReply, afterElapsed, elapsedReply}
+
+-- a monitor with nothing counted yet, enabled with this timer threshold and these thresholds A to D
+abbrev pub enabledWith : ℕ → List ℕ → Monitor
+enabledWith threshold thresholds =
+    record {
+      settings =
+          record {
+            «timer_threshold» = threshold;
+            mode = 0;
+            trigger = 0;
+            thresholds = thresholds;
+            «minimum_window» = 0;
+            enabled = true;
+          };
+      timer = 0;
+      host = false;
+      partial = 0;
+      clock = 0;
+      loaded = noLoads;
+      debug = noDebugLog;
+      «static_window» = emptyWindow;
+      «active_window» = emptyWindow;
+    }
+
+-- a Read of so many µs
+abbrev pub read : ℕ → Completion
+read us = record { opcode = 2; latency = us }
+
+-- With A-D 0, 1, 3, 9
+abbrev pub usual : List ℕ
+usual = 0 ∷ 1 ∷ 3 ∷ 9 ∷ []
+
+-- what is answered to elapsed times, one after the other
+unfoldable pub elapsedReplies : Monitor → List ℕ → List Reply
+elapsedReplies m [] = []
+elapsedReplies m (ms ∷ later) = elapsedReply m ms ∷ elapsedReplies (afterElapsed m ms) later
+
+-- a row of the table: a Read and its bucket, by these thresholds; a Read and what its bucket shows then, in ms; elapsed
+-- times by this timer threshold, and whether each ends a window
+pub data Edge : Type 0 where
+  bucket : (thresholds : List ℕ) (us : ℕ) → Option ℕ → Edge
+  shows : (us bucket ms : ℕ) → Edge
+  ends : (threshold : ℕ) → List ℕ → List Bool → Edge
+
+-- the Read counter of a bucket is 3 × bucket; its first completion loads the stamp
+abbrev pub readReply : Option ℕ → Reply
+readReply none = notCounted
+readReply (some b) = counted (3 * b) true false
+
+abbrev pub endedReplies : List Bool → List Reply
+endedReplies [] = []
+endedReplies (b ∷ later) = ended b ∷ endedReplies later
+
+-- what a row says of the rules
+abbrev pub Holds : Edge → Type 0
+Holds (bucket thresholds us b) = completionReply (enabledWith 1 thresholds) (read us) ≡ readReply b
+Holds (shows us b ms) =
+    getD (afterCompletion (enabledWith 1 usual) (read us) .«active_window» .latencies) (3 * b) 0 ≡ ms
+Holds (ends threshold times replies) = elapsedReplies (enabledWith threshold usual) times ≡ endedReplies replies
+
+abbrev pub edges : List Edge
+edges =
+    bucket usual 4999 none  -- P1
+    ∷ bucket usual 5000 (some 0)  -- P2
+    ∷ bucket usual 9999 (some 0)  -- P3
+    ∷ bucket usual 10000 (some 1)  -- P4
+    ∷ bucket usual 49999 (some 2)  -- P5
+    ∷ bucket usual 50000 (some 3)  -- P6
+    ∷ shows 4294967295 3 65535  -- P7
+    ∷ shows 7999 0 7  -- P8
+    ∷ bucket (1 ∷ 1 ∷ 3 ∷ 9 ∷ []) 10000 (some 1)  -- P9
+    ∷ ends 1 (299999 ∷ 1 ∷ []) (false ∷ true ∷ [])  -- P10
+    ∷ []
+
+abbrev pub Every : (Edge → Type 0) → List Edge → Type 0
+Every P [] = Unit {0}
+Every P (e ∷ later) = P e × Every P later
+
+-- Every row of the table holds.
+abbrev pub EdgesHold : Type 0
+EdgesHold = Every Holds edges
