@@ -1,58 +1,15 @@
--- Laws of stores: what is left to store, stored from here, gives the whole; and one run after another is one run.
-use mathlib.Core.Path.{_≡_, refl, sym, _∙_, ap}
-use mathlib.Core.List.{List, [], _∷_, _++_, append-nil}
-use Prim.Native.Nat.{ℕ, zero, suc, _+_, _-_, _<_, _≤_, _/_, _%_}
-use native.Mathlib.Omega.{arith}
+-- Laws of stores: what is left to store, stored from here, gives the whole.
+use mathlib.Core.List.{List, _++_}
+use mathlib.Core.Path.{_≡_}
+use Prim.Native.Nat.{ℕ, suc, _+_, _-_, _<_, _≤_, _/_, _%_}
 use native.Mathlib.Numerals.{add-one}
-use lib.ListN.{length, set, drop, getD, length-append, drop-of-length-le, replicate}
-use lib.Seq.{sets, sets-eq, length-sets, drop-length, drop-cons}
+use native.Mathlib.Omega.{arith}
+use lib.ListN.{length, set, drop, getD, drop-of-length-le}
+use lib.Seq.{sets, drop-cons}
 use Rattle.endian.specs.Stores.{lowFirst, fields, total}
+use Rattle.endian.proofs.Runs.{run-left, length-low}
 
--- one run after another is one run
-pub sets-append : (l : List ℕ) (i : ℕ) (a b : List ℕ) → sets l i (a ++ b) ≡ sets (sets l i a) (i + length a) b
-sets-append l i [] b =
-    let p : i + 0 ≡ i = omega arith in
-    rw p
-sets-append l i (x ∷ a) b =
-    let q : i + suc (length a) ≡ suc i + length a = omega arith in
-    rw q (sets-append (set l i x) (suc i) a b)
-
--- a run is stored where the run before it ends
-pub run-more :
-    (l cur next before run : List ℕ) (base at : ℕ) →
-    at ≡ base + length before →
-    cur ≡ sets l base before →
-    next ≡ sets cur at run →
-    next ≡ sets l base (before ++ run)
-run-more l cur next before run base at p e e′ = e′ ∙ rw (e, p) (sym (sets-append l base before run))
-
--- the first run of what is left to store
-pub run-left :
-    (cur next goal run rest : List ℕ) (at after : ℕ) →
-    after ≡ at + length run →
-    sets cur at (run ++ rest) ≡ goal →
-    next ≡ sets cur at run →
-    sets next after rest ≡ goal
-run-left cur next goal run rest at after p e e′ = rw (e′, p) (sym (sets-append cur at run rest) ∙ e)
-
--- a run that covers the whole list leaves nothing of it
-pub sets-whole : (l run : List ℕ) → length run ≡ length l → sets l 0 run ≡ run
-sets-whole l run h =
-    let b : 0 + length run ≤ length l = omega arith in
-    let n : 0 + length run ≡ length l = omega arith in
-    sets-eq run l 0 b ∙ rw (n, drop-length) (append-nil run)
-
--- a number
-pub length-low : (n v : ℕ) → length (lowFirst n v) ≡ n
-unfolding lowFirst
-length-low zero v = refl
-length-low (suc n) v = ap suc (length-low n (v / 256))
-
-pub low-zeros : (n : ℕ) → lowFirst n 0 ≡ replicate n 0
-unfolding lowFirst
-low-zeros zero = refl
-low-zeros (suc n) = rw (low-zeros n)
-
+-- a number, from its byte i on
 pub put-start : (s : List ℕ) (at n v : ℕ) → sets s (at + 0) (lowFirst (n - 0) v) ≡ sets s at (lowFirst n v)
 put-start s at n v =
     let p : n - 0 ≡ n = omega arith in
