@@ -1,1 +1,3 @@
 pub mod Fields
+pub mod Block
+pub mod Page

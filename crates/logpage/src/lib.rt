@@ -1,4 +1,8 @@
 // The plain fields of log page C3h (source document 001, 4.8.9). Names of 001 are given where they differ.
+mod block;
+mod page;
+
+pub use page::LogPage;
 ghost use mathlib.Core.Path.{_≡_};
 ghost use Rattle.logpage.specs.Fields.{noSettings, windowOf, emptyWindow, noDebugLog};
 

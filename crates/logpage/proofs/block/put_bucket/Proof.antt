@@ -1,0 +1,40 @@
+-- `put_bucket`: its four fields are the bucket's bytes.
+use mathlib.Core.List.{List}
+use mathlib.Core.Path.{_≡_, _∙_, ap}
+use Prim.Native.Nat.{ℕ}
+use lib.Seq.{sets}
+use Rattle.endian.specs.Stores.{total}
+use Rattle.logpage.proofs.block.Laws.{bucket-fields}
+use borrow.Author.Needs.{needs}
+use Rattle.logpage.proofs.block.put_bucket.Statement.{statement}
+use Rattle.logpage.proofs.block.put_bucket.Tie as tie
+
+slice-aggregate-put-fields : tie.Need-slice-aggregate-put-fields
+slice-aggregate-put-fields c = search needs
+
+slice-aggregate-put-fields-2 : tie.Need-slice-aggregate-put-fields-2
+slice-aggregate-put-fields-2 c = search needs
+
+put-fields-requires : tie.Need-put-fields-requires
+unfolding total
+put-fields-requires c κs = search needs
+
+same-length : tie.Need-same-length
+same-length c = search needs
+
+returns : tie.Need-returns
+returns c =
+    let start = c .before .before .before .before .before .before .before in
+    c .before .before .put-fields .ensures
+    ∙ ap (sets (start .args .block .now) (start .args .at))
+    (bucket-fields (start .args .deallocate) (start .args .write) (start .args .read))
+
+pub put-bucket-spec : {M : Type 1} → statement M
+put-bucket-spec =
+    tie.close
+    (tie.spec
+    slice-aggregate-put-fields
+    slice-aggregate-put-fields-2
+    put-fields-requires
+    same-length
+    returns)

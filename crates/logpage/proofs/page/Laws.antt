@@ -1,0 +1,107 @@
+-- Laws of the page: its lengths, and its stores one after the other.
+use mathlib.Core.List.{List, [], _∷_, _++_, append-assoc}
+use mathlib.Core.Path.{_≡_, refl, sym, _∙_, ap}
+use Prim.Native.Nat.{ℕ, _+_, _≤_}
+use native.Mathlib.Omega.{arith}
+use borrow.Rule.Slice.PartMut.{putMid}
+use lib.ListN.{length, getD, length-append, length-replicate}
+use lib.Seq.{sets, sets-eq, length-sets, drop-drop}
+use Rattle.endian.specs.Stores.{lowFirst, fields}
+use Rattle.endian.proofs.Runs.{low-zeros, length-low, run-more, sets-whole}
+use Rattle.logpage.specs.Block.{zeros, bit, blockBytes}
+use Rattle.logpage.specs.Page.{headBytes, tailBytes, pageBytes}
+use Rattle.logpage.specs.declared.DebugLog.{DebugLog}
+use Rattle.logpage.specs.declared.Settings.{Settings}
+use Rattle.logpage.specs.declared.Window.{Window}
+use Rattle.logpage.specs.declared.page.LogPage.{LogPage}
+use Rattle.logpage.proofs.block.Laws.{length-block}
+
+-- the first and the last bytes as fields
+pub head-fields :
+    (s : Settings) (timer : ℕ) →
+    fields (1 ∷ 1 ∷ 2 ∷ 2 ∷ 1 ∷ 1 ∷ 1 ∷ 1 ∷ 2 ∷ 1 ∷ 19 ∷ [])
+    (bit (s .enabled) ∷ 0 ∷ timer ∷ s .«timer_threshold»
+    ∷ getD (s .thresholds) 0 0 ∷ getD (s .thresholds) 1 0 ∷ getD (s .thresholds) 2 0 ∷ getD (s .thresholds) 3 0
+    ∷ s .mode ∷ s .«minimum_window» ∷ 0 ∷ [])
+    ≡ headBytes s timer
+unfolding fields lowFirst headBytes
+head-fields s timer = refl
+
+pub tail-fields :
+    (trigger : ℕ) (d : DebugLog) →
+    fields (2 ∷ 2 ∷ 8 ∷ 2 ∷ 2 ∷ 1 ∷ 29 ∷ 2 ∷ 8 ∷ 8 ∷ [])
+    (trigger ∷ d .latency ∷ d .stamp ∷ 0 ∷ d .source ∷ bit (d .units) ∷ 0
+    ∷ 0x0004 ∷ 0x9C6C84D08CC07A92 ∷ 0x85D45E58D4E64370 ∷ [])
+    ≡ tailBytes trigger d
+unfolding fields lowFirst tailBytes
+tail-fields trigger d = refl
+
+pub length-head : (s : Settings) (timer : ℕ) → length (headBytes s timer) ≡ 32
+unfolding headBytes
+length-head s timer = simp (length-append, length-low)
+
+pub length-tail : (trigger : ℕ) (d : DebugLog) → length (tailBytes trigger d) ≡ 64
+unfolding tailBytes
+length-tail trigger d = simp (length-append, length-low)
+
+pub length-page : (p : LogPage) → length (pageBytes p) ≡ 512
+unfolding pageBytes
+length-page p = simp (length-append, length-head, length-block, length-tail)
+
+-- a block that is lent and comes back filled is a run of stores in the page
+part-run :
+    (page part : List ℕ) (w : Window) (a : ℕ) →
+    a + 186 ≤ length page →
+    part ≡ blockBytes w →
+    putMid a 186 page part ≡ sets page a (blockBytes w)
+part-run page part w a h e =
+    let n = length-block w in
+    let b : a + length (blockBytes w) ≤ length page = omega arith in
+    rw (e, sets-eq (blockBytes w) page a b, append-assoc, drop-drop, n)
+
+-- the two blocks, and the zeros after each
+pub windows-run :
+    (page b₁ s₂ b₃ s₄ : List ℕ) (active static : Window) →
+    length page ≡ 512 →
+    b₁ ≡ blockBytes active →
+    s₂ ≡ sets (putMid 32 186 page b₁) 218 (lowFirst 22 0) →
+    b₃ ≡ blockBytes static →
+    s₄ ≡ sets (putMid 240 186 s₂ b₃) 426 (lowFirst 22 0) →
+    s₄ ≡ sets page 32 (blockBytes active ++ zeros 22 ++ blockBytes static ++ zeros 22)
+windows-run page b₁ s₂ b₃ s₄ active static h e₁ e₂ e₃ e₄ =
+    let n₁ = length-block active in
+    let n₃ = length-block static in
+    let r₁ = part-run page b₁ active 32 (omega arith) e₁ in
+    let m₂ : length (blockBytes active ++ zeros 22) ≡ 208 = simp (length-append, n₁) in
+    let m₃ : length (blockBytes active ++ zeros 22 ++ blockBytes static) ≡ 394 = simp (length-append, n₁, n₃) in
+    let r₂ = run-more page _ s₂ (blockBytes active) (zeros 22) 32 218 (omega arith) r₁ (rw (low-zeros 22) at e₂) in
+    let k₂ : length s₂ ≡ 512 = ap length r₂ ∙ length-sets page 32 (blockBytes active ++ zeros 22) ∙ h in
+    let r₃ = run-more page s₂ _ (blockBytes active ++ zeros 22) (blockBytes static) 32 240 (omega arith) r₂ (part-run s₂ b₃ static 240 (omega arith) e₃) in
+    run-more page _ s₄ (blockBytes active ++ zeros 22 ++ blockBytes static) (zeros 22) 32 426 (omega arith) r₃ (rw (low-zeros 22) at e₄)
+
+-- head, windows and tail, one after the other
+page-parts :
+    (p : LogPage) →
+    headBytes (p .settings) (p .timer)
+    ++ (blockBytes (p .«active_window») ++ zeros 22 ++ blockBytes (p .«static_window») ++ zeros 22)
+    ++ tailBytes (p .settings .trigger) (p .debug)
+    ≡ pageBytes p
+unfolding pageBytes
+page-parts p = simp append-assoc
+
+pub page-run :
+    (p : LogPage) (page s₁ s₂ s₃ : List ℕ) →
+    length page ≡ 512 →
+    s₁ ≡ sets page 0 (headBytes (p .settings) (p .timer)) →
+    s₂ ≡ sets s₁ 32 (blockBytes (p .«active_window») ++ zeros 22 ++ blockBytes (p .«static_window») ++ zeros 22) →
+    s₃ ≡ sets s₂ 448 (tailBytes (p .settings .trigger) (p .debug)) →
+    s₃ ≡ pageBytes p
+page-run p page s₁ s₂ s₃ h e₁ e₂ e₃ =
+    let head : List ℕ = headBytes (p .settings) (p .timer) in
+    let windows : List ℕ = blockBytes (p .«active_window») ++ zeros 22 ++ blockBytes (p .«static_window») ++ zeros 22 in
+    let tail : List ℕ = tailBytes (p .settings .trigger) (p .debug) in
+    let n₁ : length head ≡ 32 = length-head (p .settings) (p .timer) in
+    let n₂ : length (head ++ windows) ≡ 448 = simp (length-append, length-head, length-block) in
+    let r₂ = run-more page s₁ s₂ head windows 0 32 (omega arith) e₁ e₂ in
+    run-more page s₂ s₃ (head ++ windows) tail 0 448 (omega arith) r₂ e₃
+    ∙ rw (page-parts p) (sets-whole page (pageBytes p) (length-page p ∙ sym h))

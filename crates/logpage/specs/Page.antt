@@ -1,0 +1,53 @@
+-- Log page C3h: 512 bytes. Every byte not named is zero.
+use mathlib.Core.List.{List, _++_}
+use Prim.Native.Nat.{ℕ}
+use lib.ListN.{getD}
+use Rattle.endian.specs.Stores.{lowFirst}
+use Rattle.logpage.specs.Block.{zeros, bit, blockBytes}
+use Rattle.logpage.specs.declared.DebugLog.{DebugLog}
+use Rattle.logpage.specs.declared.Settings.{Settings}
+use Rattle.logpage.specs.declared.page.LogPage.{LogPage}
+
+-- bytes 0 to 31
+unfoldable pub headBytes : Settings → (timer : ℕ) → List ℕ
+headBytes s timer =
+    lowFirst 1 (bit (s .enabled))  -- 0: bit 0 enabled; bits 1 to 7 zero
+    ++ zeros 1
+    ++ lowFirst 2 timer  -- 2-3: steps
+    ++ lowFirst 2 (s .«timer_threshold»)  -- 4-5: timer threshold
+    ++ lowFirst 1 (getD (s .thresholds) 0 0)  -- 6-9: A, B, C, D
+    ++ lowFirst 1 (getD (s .thresholds) 1 0)
+    ++ lowFirst 1 (getD (s .thresholds) 2 0)
+    ++ lowFirst 1 (getD (s .thresholds) 3 0)
+    ++ lowFirst 2 (s .mode)  -- 10-11: stamping mode
+    ++ lowFirst 1 (s .«minimum_window»)  -- 12: minimum window
+    ++ zeros 19
+
+-- Log page version and GUID, from the table: source document 001, LMDATA-35 and LMDATA-36.
+abbrev pub version : ℕ
+version = 0x0004
+
+abbrev pub guid : ℕ
+guid = 0x85D45E58D4E643709C6C84D08CC07A92
+
+-- bytes 448 to 511
+unfoldable pub tailBytes : (trigger : ℕ) → DebugLog → List ℕ
+tailBytes trigger d =
+    lowFirst 2 trigger  -- 448-449: debug trigger
+    ++ lowFirst 2 (d .latency)  -- 450-451: debug: shown latency
+    ++ lowFirst 8 (d .stamp)  -- 452-459: debug: stamp, all ones if no record
+    ++ zeros 2  -- 460-461: debug pointer, zero
+    ++ lowFirst 2 (d .source)  -- 462-463: debug: source, pair bit
+    ++ lowFirst 1 (bit (d .units))  -- 464: debug: clock mark
+    ++ zeros 29
+    ++ lowFirst 2 version  -- 494-495
+    ++ lowFirst 16 guid  -- 496-511
+
+unfoldable pub pageBytes : LogPage → List ℕ
+pageBytes p =
+    headBytes (p .settings) (p .timer)
+    ++ blockBytes (p .«active_window»)  -- 32-217: block of the running window
+    ++ zeros 22
+    ++ blockBytes (p .«static_window»)  -- 240-425: block of the last finished window
+    ++ zeros 22
+    ++ tailBytes (p .settings .trigger) (p .debug)
