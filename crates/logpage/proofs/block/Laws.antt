@@ -1,9 +1,9 @@
 -- Laws of the block: its lengths, and its stores one after the other.
 use mathlib.Core.Bool.{Bool, true, false}
 use mathlib.Core.List.{List, [], _∷_, _++_}
-use mathlib.Core.Path.{_≡_, refl, sym, _∙_, ap}
+use mathlib.Core.Path.{_≡_, refl, sym, _∙_}
 use Prim.Native.Nat.{ℕ, zero, suc, _+_, _*_, _-_, _^_, _<_, _≤_}
-use native.Mathlib.Nat.{mul-suc, not-suc-le-zero, one-le-pow, pow-succ'}
+use native.Mathlib.Nat.{not-suc-le-zero, one-le-pow, pow-succ'}
 use native.Mathlib.Numerals.{add-one}
 use native.Mathlib.Omega.{arith}
 use lib.ListN.{length, getD, drop, drop-of-length-le, length-append, length-drop}
@@ -12,6 +12,7 @@ use Rattle.endian.specs.Stores.{lowFirst, fields}
 use Rattle.endian.proofs.Runs.{length-low, run-more, run-left, sets-whole}
 use Rattle.logpage.specs.Block.{bit, bucketBytes, buckets, downward, bits, blockBytes}
 use Rattle.logpage.specs.declared.Window.{Window}
+use Rattle.logpage.proofs.Places.{length-buckets, length-downward, length-block}
 
 -- a bucket is four fields
 pub bucket-fields :
@@ -19,16 +20,6 @@ pub bucket-fields :
     fields (4 ∷ 4 ∷ 4 ∷ 4 ∷ []) (0 ∷ deallocate ∷ write ∷ read ∷ []) ≡ bucketBytes deallocate write read
 unfolding fields lowFirst bucketBytes
 bucket-fields deallocate write read = refl
-
-pub length-bucket : (deallocate write read : ℕ) → length (bucketBytes deallocate write read) ≡ 16
-unfolding bucketBytes
-length-bucket deallocate write read = simp (length-append, length-low)
-
-pub length-buckets : (counters : List ℕ) (b : ℕ) → length (buckets counters b) ≡ 16 * b
-unfolding buckets
-length-buckets counters zero = omega arith
-length-buckets counters (suc b) =
-    rw (length-append, length-bucket, mul-suc) (omega (arith, length-buckets counters b))
 
 -- one more bucket
 pub buckets-more :
@@ -44,11 +35,6 @@ buckets-more counters l cur next b e e′ =
 
 -- values of one width, the last counter's first
 module _ (width : ℕ) (values : List ℕ) where
-  pub length-downward : (n : ℕ) → length (downward width values n) ≡ width * n
-  unfolding downward
-  length-downward zero = omega arith
-  length-downward (suc n) = rw (length-append, length-low, mul-suc) (omega (arith, length-downward n))
-
   -- the value of the last of the counters that are left
   pub downward-more :
       (cur next goal : List ℕ) (n at place after : ℕ) →
@@ -105,10 +91,6 @@ bits-below (false ∷ units) (suc n) h = rw (pow-succ' 2 n) (omega (arith, bits-
 
 pub bits-fit : (units : List Bool) (n : ℕ) → length units ≤ 12 → bits (drop n units) < 4096
 bits-fit units n h = bits-below (drop n units) 12 (omega (arith, length-drop n units))
-
-pub length-block : (w : Window) → length (blockBytes w) ≡ 186
-unfolding blockBytes
-length-block w = simp (length-append, length-buckets, length-downward, length-low)
 
 -- the four parts, one after the other
 pub block-run :

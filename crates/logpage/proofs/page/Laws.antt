@@ -4,49 +4,40 @@ use mathlib.Core.Path.{_≡_, refl, sym, _∙_, ap}
 use Prim.Native.Nat.{ℕ, _+_, _≤_}
 use native.Mathlib.Omega.{arith}
 use borrow.Rule.Slice.PartMut.{putMid}
-use lib.ListN.{length, getD, length-append, length-replicate}
+use lib.ListN.{length, getD, length-append}
 use lib.Seq.{sets, sets-eq, length-sets, drop-drop}
 use Rattle.endian.specs.Stores.{lowFirst, fields}
-use Rattle.endian.proofs.Runs.{low-zeros, length-low, run-more, sets-whole}
+use Rattle.endian.proofs.Runs.{low-zeros, run-more, sets-whole}
 use Rattle.logpage.specs.Block.{zeros, bit, blockBytes}
 use Rattle.logpage.specs.Page.{headBytes, tailBytes, pageBytes}
 use Rattle.logpage.specs.declared.DebugLog.{DebugLog}
 use Rattle.logpage.specs.declared.Settings.{Settings}
 use Rattle.logpage.specs.declared.Window.{Window}
 use Rattle.logpage.specs.declared.page.LogPage.{LogPage}
-use Rattle.logpage.proofs.block.Laws.{length-block}
+use Rattle.logpage.proofs.Places.{length-block, length-head, length-page}
 
 -- the first and the last bytes as fields
-pub head-fields :
-    (s : Settings) (timer : ℕ) →
-    fields (1 ∷ 1 ∷ 2 ∷ 2 ∷ 1 ∷ 1 ∷ 1 ∷ 1 ∷ 2 ∷ 1 ∷ 19 ∷ [])
-    (bit (s .enabled) ∷ 0 ∷ timer ∷ s .«timer_threshold»
-    ∷ getD (s .thresholds) 0 0 ∷ getD (s .thresholds) 1 0 ∷ getD (s .thresholds) 2 0 ∷ getD (s .thresholds) 3 0
-    ∷ s .mode ∷ s .«minimum_window» ∷ 0 ∷ [])
-    ≡ headBytes s timer
+abbrev pub headWidths : List ℕ
+headWidths = 1 ∷ 1 ∷ 2 ∷ 2 ∷ 1 ∷ 1 ∷ 1 ∷ 1 ∷ 2 ∷ 1 ∷ 19 ∷ []
+
+abbrev pub headValues : Settings → ℕ → List ℕ
+headValues s timer =
+    bit (s .enabled) ∷ 0 ∷ timer ∷ s .«timer_threshold» ∷ getD (s .thresholds) 0 0 ∷ getD (s .thresholds) 1 0 ∷ getD (s .thresholds) 2 0 ∷ getD (s .thresholds) 3 0 ∷ s .mode ∷ s .«minimum_window» ∷ 0 ∷ []
+
+pub head-fields : (s : Settings) (timer : ℕ) → fields headWidths (headValues s timer) ≡ headBytes s timer
 unfolding fields lowFirst headBytes
 head-fields s timer = refl
 
-pub tail-fields :
-    (trigger : ℕ) (d : DebugLog) →
-    fields (2 ∷ 2 ∷ 8 ∷ 2 ∷ 2 ∷ 1 ∷ 29 ∷ 2 ∷ 8 ∷ 8 ∷ [])
-    (trigger ∷ d .latency ∷ d .stamp ∷ 0 ∷ d .source ∷ bit (d .units) ∷ 0
-    ∷ 0x0004 ∷ 0x9C6C84D08CC07A92 ∷ 0x85D45E58D4E64370 ∷ [])
-    ≡ tailBytes trigger d
+abbrev pub tailWidths : List ℕ
+tailWidths = 2 ∷ 2 ∷ 8 ∷ 2 ∷ 2 ∷ 1 ∷ 29 ∷ 2 ∷ 8 ∷ 8 ∷ []
+
+abbrev pub tailValues : ℕ → DebugLog → List ℕ
+tailValues trigger d =
+    trigger ∷ d .latency ∷ d .stamp ∷ 0 ∷ d .source ∷ bit (d .units) ∷ 0 ∷ 0x0004 ∷ 0x9C6C84D08CC07A92 ∷ 0x85D45E58D4E64370 ∷ []
+
+pub tail-fields : (trigger : ℕ) (d : DebugLog) → fields tailWidths (tailValues trigger d) ≡ tailBytes trigger d
 unfolding fields lowFirst tailBytes
 tail-fields trigger d = refl
-
-pub length-head : (s : Settings) (timer : ℕ) → length (headBytes s timer) ≡ 32
-unfolding headBytes
-length-head s timer = simp (length-append, length-low)
-
-pub length-tail : (trigger : ℕ) (d : DebugLog) → length (tailBytes trigger d) ≡ 64
-unfolding tailBytes
-length-tail trigger d = simp (length-append, length-low)
-
-pub length-page : (p : LogPage) → length (pageBytes p) ≡ 512
-unfolding pageBytes
-length-page p = simp (length-append, length-head, length-block, length-tail)
 
 -- a block that is lent and comes back filled is a run of stores in the page
 part-run :

@@ -1,11 +1,9 @@
 -- `put_bucket`: its four fields are the bucket's bytes.
-use mathlib.Core.List.{List}
-use mathlib.Core.Path.{_≡_, _∙_, ap}
-use Prim.Native.Nat.{ℕ}
+use mathlib.Core.Path.{_∙_, ap}
+use borrow.Author.Needs.{needs}
 use lib.Seq.{sets}
 use Rattle.endian.specs.Stores.{total}
 use Rattle.logpage.proofs.block.Laws.{bucket-fields}
-use borrow.Author.Needs.{needs}
 use Rattle.logpage.proofs.block.put_bucket.Statement.{statement}
 use Rattle.logpage.proofs.block.put_bucket.Tie as tie
 

@@ -1,6 +1,6 @@
 -- `write_block`: its four parts, one after the other.
-use Rattle.logpage.proofs.block.Laws.{block-run}
 use borrow.Author.Needs.{needs}
+use Rattle.logpage.proofs.block.Laws.{block-run}
 use Rattle.logpage.proofs.block.write_block.Statement.{statement}
 use Rattle.logpage.proofs.block.write_block.Tie as tie
 

@@ -1,9 +1,9 @@
 -- `write_tail`: its fields are the bytes.
-use mathlib.Core.Path.{_≡_, _∙_, ap}
+use mathlib.Core.Path.{_∙_, ap}
+use borrow.Author.Needs.{needs}
 use lib.Seq.{sets}
 use Rattle.endian.specs.Stores.{total}
 use Rattle.logpage.proofs.page.Laws.{tail-fields}
-use borrow.Author.Needs.{needs}
 use Rattle.logpage.proofs.page.write_tail.Statement.{statement}
 use Rattle.logpage.proofs.page.write_tail.Tie as tie
 

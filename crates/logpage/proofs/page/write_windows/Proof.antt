@@ -1,6 +1,6 @@
 -- `write_windows`: a block, zeros, a block, zeros.
-use Rattle.logpage.proofs.page.Laws.{windows-run}
 use borrow.Author.Needs.{needs}
+use Rattle.logpage.proofs.page.Laws.{windows-run}
 use Rattle.logpage.proofs.page.write_windows.Statement.{statement}
 use Rattle.logpage.proofs.page.write_windows.Tie as tie
 

@@ -1,8 +1,8 @@
 -- `LogPage::write`: head, windows and tail of a page of 512 bytes.
-use mathlib.Core.Path.{_≡_, sym, _∙_}
+use mathlib.Core.Path.{sym, _∙_}
 use borrow.Author.Tests.{eq-eqb, ne-eqb}
-use Rattle.logpage.proofs.page.Laws.{page-run}
 use borrow.Author.Needs.{needs}
+use Rattle.logpage.proofs.page.Laws.{page-run}
 use Rattle.logpage.proofs.page.LogPage.write.Statement.{statement}
 use Rattle.logpage.proofs.page.LogPage.write.Tie as tie
 
