@@ -2,6 +2,7 @@
 mod stores;
 
 pub use stores::put;
+pub use stores::copy;
 pub use stores::put_fields;
 ghost use mathlib.Core.Path.{_≡_};
 ghost use Rattle.endian.specs.Bytes.{word, anySet};

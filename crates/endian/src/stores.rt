@@ -33,3 +33,15 @@ pub fn put_fields(s: &mut [u8], at: usize, widths: &[usize], values: &[u64])
         i += 1;
     }
 }
+
+// Fills a slice with another's bytes.
+pub fn copy(s: &mut [u8], from: &[u8])
+    requires { ⌜ length (now s) ≡ length (now from) ⌝ }
+    ensures { λ _. ⌜ now (s .exit) ≡ now (from .entry) ⌝ }
+{
+    let mut i = 0;
+    while i < from.len() {
+        s[i] = from[i];
+        i += 1;
+    }
+}

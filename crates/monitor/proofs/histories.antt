@@ -5,3 +5,4 @@ pub mod Completions
 pub mod Elapsed
 pub mod Play
 pub mod Bounds
+pub mod Given

@@ -6,6 +6,7 @@ use Prim.Native.Nat.{ℕ, zero, suc, _+_, _-_, _*_, _/_, _%_, min}
 use lib.Dec.{eqb, leb, ltb}
 use lib.ListN.{length}
 use Rattle.logpage.specs.Fields.{unset, noSettings, noDebugLog}
+use Rattle.logpage.specs.declared.page.LogPage.{LogPage}
 use Rattle.logpage.specs.declared.DebugLog.{DebugLog}
 use Rattle.logpage.specs.declared.Settings.{Settings}
 use Rattle.logpage.specs.declared.Window.{Window}
@@ -194,4 +195,15 @@ recordOf past =
       debug = debugAt past;
       «static_window» = windowOf (static past);
       «active_window» = windowOf (active past);
+    }
+
+-- what the page shows of the facts
+unfoldable pub factsOf : Past → LogPage
+factsOf past =
+    record {
+      settings = inForce past;
+      timer = timerAt past;
+      «active_window» = windowOf (active past);
+      «static_window» = windowOf (static past);
+      debug = debugAt past;
     }

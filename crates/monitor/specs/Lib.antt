@@ -5,6 +5,7 @@ pub mod Timer
 pub mod Refusals
 pub mod Answers
 pub mod Record
+pub mod Report
 pub mod History
 pub mod Facts
 pub mod Edges

@@ -36,8 +36,8 @@ newMonitor =
       debug = noDebugLog;
     }
 
--- a refused call leaves the record untouched
-abbrev untouchedIf : Option ℕ → Monitor → Monitor → Monitor
+-- a refused call leaves the record, and a lent buffer, untouched
+abbrev pub untouchedIf : {A : Type 0} → Option ℕ → A → A → A
 untouchedIf (some n) old next = old
 untouchedIf none old next = next
 

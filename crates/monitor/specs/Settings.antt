@@ -1,9 +1,11 @@
 -- Settings: the table of fields, in 4,096 bytes.
 use Prim.Native.Nat.{ℕ, _+_}
-use mathlib.Core.List.{List, [], _∷_}
+use mathlib.Core.List.{List, [], _∷_, _++_}
 use lib.Dec.{eqb}
 use lib.ListN.{getD}
 use Rattle.endian.specs.Bytes.{word}
+use Rattle.endian.specs.Stores.{lowFirst}
+use Rattle.logpage.specs.Block.{zeros, bit}
 use Rattle.logpage.specs.declared.Settings.{Settings}
 
 -- the byte at a place
@@ -33,3 +35,18 @@ decoded s =
       trigger = wordAt s 9;
       enabled = eqb (enable s) 1;
     }
+
+-- Giving settings back fills all 4,096 bytes, the discard byte as 0.
+unfoldable pub encoded : Settings → List ℕ
+encoded s =
+    lowFirst 2 (s .«timer_threshold») -- 0-1
+    ++ lowFirst 1 (byte (s .thresholds) 0) -- 2 to 5
+    ++ lowFirst 1 (byte (s .thresholds) 1)
+    ++ lowFirst 1 (byte (s .thresholds) 2)
+    ++ lowFirst 1 (byte (s .thresholds) 3)
+    ++ lowFirst 2 (s .mode) -- 6-7
+    ++ lowFirst 1 (s .«minimum_window») -- 8
+    ++ lowFirst 2 (s .trigger) -- 9-10
+    ++ zeros 1 -- 11
+    ++ lowFirst 1 (bit (s .enabled)) -- 12
+    ++ zeros 4083

@@ -4,6 +4,7 @@ mod commands;
 mod counting;
 mod record;
 mod refusals;
+mod report;
 mod settings;
 mod timer;
 

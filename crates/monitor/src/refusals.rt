@@ -23,3 +23,9 @@ pub const ELAPSED_TIME: u8 = 7;
 
 // The clock is above its top.
 pub const CLOCK_VALUE: u8 = 8;
+
+// The buffer for the page is not 512 bytes.
+pub const PAGE_LENGTH: u8 = 9;
+
+// The buffer for the settings is not 4,096 bytes.
+pub const SETTINGS_BACK_LENGTH: u8 = 10;

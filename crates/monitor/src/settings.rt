@@ -6,14 +6,14 @@ ghost use lib.Dec.{eqb};
 ghost use Rattle.logpage.specs.Fields.{noDebugLog};
 ghost use lib.ListN.{length};
 ghost use Rattle.monitor.specs.Answers.{done, saysAnswer, unlessRefused};
-ghost use Rattle.monitor.specs.Settings.{decoded};
+ghost use Rattle.monitor.specs.Settings.{decoded, encoded};
 ghost use Rattle.monitor.specs.Refusals.{settingsRefusal, fieldRefusal, eitherAbove, unordered};
 use crate::answers::Answer;
 use crate::refusals;
 use logpage::DebugLog;
 use logpage::Settings;
 
-const LENGTH: usize = 4096;
+pub const LENGTH: usize = 4096;
 
 // The places of the two flags.
 pub const DISCARD: usize = 11;
@@ -39,6 +39,29 @@ pub(crate) fn decode(s: &[u8]) -> Settings
         minimum_window: s[8],
         enabled: s[ENABLE] == 1,
     }
+}
+
+// The settings in force as bytes; the discard byte is zero.
+pub(crate) fn encode(s: Settings) -> [u8; 4096]
+    ensures { λ r. ⌜ r ≡ encoded s ⌝ }
+{
+    let t = s.thresholds;
+    let widths = [2, 1, 1, 1, 1, 2, 1, 2, 1, 1];
+    let values = [
+        s.timer_threshold as u64,
+        t[0] as u64,
+        t[1] as u64,
+        t[2] as u64,
+        t[3] as u64,
+        s.mode as u64,
+        s.minimum_window as u64,
+        s.trigger as u64,
+        0,
+        s.enabled as u64,
+    ];
+    let mut bytes = [0; 4096];
+    endian::put_fields(&mut bytes, 0, &widths, &values);
+    bytes
 }
 
 // Whether one of two numbers is above a limit.

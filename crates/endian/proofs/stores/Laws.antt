@@ -69,3 +69,18 @@ module _ (widths values : List ℕ) (i : ℕ) where
       cur ≡ goal
   unfolding fields
   fields-end cur goal at h e = rw (drop-of-length-le widths h) at e
+
+-- bytes that are copied, from the i-th on
+pub copy-more :
+    (s from goal : List ℕ) (i : ℕ) →
+    i < length from →
+    sets s i (drop i from) ≡ goal →
+    sets (set s i (getD from i 0)) (i + 1) (drop (i + 1) from) ≡ goal
+copy-more s from goal i h e = rw add-one (rw (drop-cons from i 0 h) at e)
+
+pub copy-end :
+    (s from goal : List ℕ) (i : ℕ) →
+    length from ≤ i →
+    sets s i (drop i from) ≡ goal →
+    s ≡ goal
+copy-end s from goal i h e = rw (drop-of-length-le from h) at e

@@ -15,7 +15,9 @@ use Rattle.monitor.specs.declared.commands.Completion.{Completion}
 use Rattle.monitor.specs.Commands.{counterOf, millisecondsOf}
 use Rattle.monitor.specs.Facts.{inForce, sum, clockAt, enables, enabledThreshold, threshold, enabledTime, whileEnabled, windowAt, timerAt, Counted, countedAt, those, countOf, lastLoad, stampOf, latencyOf, triggered, discards, orFirst, first, logOf, debugAt}
 use Rattle.monitor.specs.History.{Call, settings, completion, elapsed, clock, powerUp, page, settingsBack, History, Bytes, BytesIn, OfBytes, Effect, configured, completed, passed, clockSet, poweredUp, nothing, ifAccepted, asked, refusalOf, effectOf, Past, pastOf, settingsIn, completionIn, found, orElse, latest, andThen, since}
+use Rattle.monitor.specs.Refusals.{settingsRefusal, elapsedRefusal, clockRefusal, pageRefusal, settingsBackRefusal}
 use Rattle.monitor.specs.Settings.{decoded}
+use Rattle.monitor.proofs.refusals.Laws.{Accepted, accepted}
 use Rattle.monitor.proofs.commands.Laws.{counter-below}
 use Rattle.monitor.proofs.histories.Facts.{Good, enabled-positive, clock-top}
 use Rattle.monitor.proofs.histories.Lists.{All, Some, all-those}
@@ -43,7 +45,7 @@ module _ {A : Type 0} (P : A → Type 0) where
       by false (some x) q earlier = (q, earlier)
 
 -- settings made of bytes
-byte-at : (s : List ℕ) → Bytes s → (i : ℕ) → getD s i 0 < 256
+pub byte-at : (s : List ℕ) → Bytes s → (i : ℕ) → getD s i 0 < 256
 byte-at [] b i = omega arith
 byte-at (x ∷ s) b zero = b .0
 byte-at (x ∷ s) b (suc i) = byte-at s (b .1) i
@@ -80,46 +82,57 @@ none-narrow =
       minimum-window = omega arith;
     }
 
--- the settings of a history are made of bytes
-pub bytes-past : (h : History) → OfBytes h → All (λ e. Some Bytes (settingsIn e)) (pastOf h)
-bytes-past [] b = tt
-bytes-past (c ∷ h) b = (by (refusalOf c) (bytes-asked c (b .0)), bytes-past h (b .1))
+-- the settings that a history accepts are bytes
+pub record Sound (s : List ℕ) : Type 0 where
+  pub bytes : Bytes s
+  pub accepted : Accepted s
+
+abbrev pub SoundPast : Past → Type 0
+SoundPast past = All (λ e. Some Sound (settingsIn e)) past
+
+none-in : (r : Option ℕ) (e : Effect) → Some Sound (settingsIn e) → Some Sound (settingsIn (ifAccepted r e))
+none-in none e k = k
+none-in (some n) e k = tt
+
+sound-call : (c : Call) → BytesIn c → Some Sound (settingsIn (effectOf c))
+sound-call (settings s) b = by (settingsRefusal s) refl
   where
-    bytes-asked : (d : Call) → BytesIn d → Some Bytes (settingsIn (asked d))
-    bytes-asked (settings s) k = k
-    bytes-asked (completion d) k = tt
-    bytes-asked (elapsed ms) k = tt
-    bytes-asked (clock value) k = tt
-    bytes-asked powerUp k = tt
-    bytes-asked (page length) k = tt
-    bytes-asked (settingsBack length) k = tt
+    by : (r : Option ℕ) → settingsRefusal s ≡ r → Some Sound (settingsIn (ifAccepted r (configured s)))
+    by none e = record { bytes = b; accepted = accepted s e }
+    by (some n) e = tt
+sound-call (completion c) b = tt
+sound-call (elapsed ms) b = none-in (elapsedRefusal ms) (passed ms) tt
+sound-call (clock value) b = none-in (clockRefusal value) (clockSet value) tt
+sound-call powerUp b = tt
+sound-call (page length) b = none-in (pageRefusal length) nothing tt
+sound-call (settingsBack length) b = none-in (settingsBackRefusal length) nothing tt
 
-    by : (r : Option ℕ) → Some Bytes (settingsIn (asked c)) → Some Bytes (settingsIn (ifAccepted r (asked c)))
-    by none k = k
-    by (some n) k = tt
+pub sound-past : (h : History) → OfBytes h → SoundPast (pastOf h)
+sound-past [] b = tt
+sound-past (c ∷ h) b = (sound-call c (b .0), sound-past h (b .1))
 
-module _ (past : Past) (bytes : All (λ e. Some Bytes (settingsIn e)) past) where
+module _ (past : Past) (sound : SoundPast past) where
   pub in-force-narrow : Narrow (inForce past)
   unfolding inForce
-  in-force-narrow = by (latest settingsIn past) (latest-some Bytes settingsIn past bytes)
+  in-force-narrow = by (latest settingsIn past) (latest-some Sound settingsIn past sound)
     where
-      by : (o : Option (List ℕ)) → Some Bytes o → Narrow (found noSettings decoded o)
+      by : (o : Option (List ℕ)) → Some Sound o → Narrow (found noSettings decoded o)
       by none k = none-narrow
-      by (some s) k = narrow s k
+      by (some s) k = narrow s (k .bytes)
 
   threshold-below : threshold past < 65536
   unfolding threshold
-  threshold-below = by (latest enabledThreshold past) (latest-some (λ p. p < 65536) enabledThreshold past (each-below past bytes))
+  threshold-below = by (latest enabledThreshold past) (latest-some (λ p. p < 65536) enabledThreshold past (each-below past sound))
     where
-      of-settings : (s : List ℕ) → Bytes s → (b : Bool) → Some (λ p. p < 65536) (cond b (some (decoded s .«timer_threshold»)) none)
-      of-settings s k true = narrow s k .timer-threshold
+      of-settings : (s : List ℕ) → Sound s → (b : Bool) → Some (λ p. p < 65536) (cond b (some (decoded s .«timer_threshold»)) none)
+      of-settings s k true = narrow s (k .bytes) .timer-threshold
       of-settings s k false = tt
 
-      of-effect : (o : Option (List ℕ)) → Some Bytes o → Some (λ p. p < 65536) (found none (λ s. cond (decoded s .enabled) (some (decoded s .«timer_threshold»)) none) o)
+      of-effect : (o : Option (List ℕ)) → Some Sound o → Some (λ p. p < 65536) (found none (λ s. cond (decoded s .enabled) (some (decoded s .«timer_threshold»)) none) o)
       of-effect none k = tt
       of-effect (some s) k = of-settings s k (decoded s .enabled)
 
-      each-below : (q : Past) → All (λ e. Some Bytes (settingsIn e)) q → All (λ e. Some (λ p. p < 65536) (enabledThreshold e)) q
+      each-below : (q : Past) → SoundPast q → All (λ e. Some (λ p. p < 65536) (enabledThreshold e)) q
       each-below [] k = tt
       each-below (e ∷ q) k = (of-effect (settingsIn e) (k .0), each-below q (k .1))
 
@@ -146,12 +159,12 @@ unstarted (clockSet value ∷ past) g z = unstarted past (g .1) z
 unstarted (poweredUp ∷ past) g z = unstarted past (g .1) z
 unstarted (nothing ∷ past) g z = unstarted past (g .1) z
 
-pub timer-below : (past : Past) → Good past → All (λ e. Some Bytes (settingsIn e)) past → timerAt past < 65536
+pub timer-below : (past : Past) → Good past → SoundPast past → timerAt past < 65536
 unfolding timerAt windowAt
-timer-below past g bytes = by (decLt 0 (threshold past))
+timer-below past g sound = by (decLt 0 (threshold past))
   where
     by : Dec (0 < threshold past) → enabledTime past / 300000 - enabledTime past / (300000 * threshold past) * threshold past < 65536
-    by (yes h) = omega (arith, high (enabledTime past) (threshold past) h, threshold-below past bytes)
+    by (yes h) = omega (arith, high (enabledTime past) (threshold past) h, threshold-below past sound)
     by (no h) = omega (arith, unstarted past g (omega arith))
 
 -- what a window shows

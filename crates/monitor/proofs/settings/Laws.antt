@@ -2,16 +2,19 @@
 use mathlib.Core.Path.{_≡_, refl}
 use mathlib.Core.Bool.{Bool, true, false}
 use mathlib.Core.Option.{Option, some, none}
-use mathlib.Core.List.{List}
+use mathlib.Core.List.{List, [], _∷_}
 use Prim.Native.Nat.{ℕ}
 use native.Mathlib.Omega.{arith}
 use lib.Dec.{eqb}
-use lib.ListN.{length, drop}
+use lib.ListN.{length, drop, getD, replicate}
+use lib.Seq.{sets}
 use borrow.Author.Tests.{eq-eqb, ne-eqb}
 use Rattle.endian.specs.Bytes.{anySet}
+use Rattle.endian.specs.Stores.{lowFirst, fields}
+use Rattle.logpage.specs.Block.{bit}
 use Rattle.logpage.specs.declared.Settings.{Settings}
 use Rattle.monitor.specs.Answers.{done, refused, unlessRefused}
-use Rattle.monitor.specs.Settings.{decoded}
+use Rattle.monitor.specs.Settings.{decoded, encoded}
 use Rattle.monitor.specs.Refusals.{settingsRefusal, fieldRefusal, eitherAbove, unordered}
 use Rattle.monitor.specs.Settings.{discard as discardOf, enable as enableOf}
 
@@ -73,3 +76,14 @@ module _ (discard enable : ℕ) (s : Settings) where
             done ≡ unlessRefused (fieldRefusal discard enable s) done
         unfolding fieldRefusal
         fields-accepted clear = rw (flags, ne-eqb (s .«timer_threshold») 0 timed, order, clear)
+
+-- the settings in force as fields, in an array of zeros
+pub encodes :
+    (s : Settings) →
+    sets (replicate 4096 0) 0
+    (fields (2 ∷ 1 ∷ 1 ∷ 1 ∷ 1 ∷ 2 ∷ 1 ∷ 2 ∷ 1 ∷ 1 ∷ [])
+    (s .«timer_threshold» ∷ getD (s .thresholds) 0 0 ∷ getD (s .thresholds) 1 0 ∷ getD (s .thresholds) 2 0 ∷ getD (s .thresholds) 3 0
+    ∷ s .mode ∷ s .«minimum_window» ∷ s .trigger ∷ 0 ∷ bit (s .enabled) ∷ []))
+    ≡ encoded s
+unfolding fields lowFirst encoded
+encodes s = refl

@@ -1,0 +1,56 @@
+-- `copy`: what is left of the bytes, stored from here, gives them all.
+use mathlib.Core.Path.{_≡_, refl}
+use Prim.Native.Nat.{_≤_, _-_}
+use native.Mathlib.Omega.{arith}
+use borrow.Author.Needs.{needs}
+use lib.ListN.{length, drop}
+use lib.Seq.{sets}
+use Rattle.endian.proofs.Runs.{sets-whole}
+use Rattle.endian.proofs.stores.Laws.{copy-more, copy-end}
+use Rattle.endian.proofs.stores.copy.Statement.{statement}
+use Rattle.endian.proofs.stores.copy.Tie as tie
+
+abbrev Inv-loop : tie.InvT-loop
+Inv-loop s₀ from i₀ s i = (i ≤ length from) × (length s ≡ length s₀) × (sets s i (drop i from) ≡ from)
+
+abbrev μ-loop : tie.MeasureT-loop
+μ-loop s₀ from i₀ s i = length from - i
+
+loop-holds : tie.Need-loop-holds Inv-loop μ-loop
+loop-holds c = (search needs, search needs, sets-whole (c .args .s .now) (c .args .from .now) (search needs))
+
+shared-slice-read-s : tie.Need-shared-slice-read-s Inv-loop μ-loop
+shared-slice-read-s c = search needs
+
+slice-write-s : tie.Need-slice-write-s Inv-loop μ-loop
+slice-write-s c = search needs
+
+add-i : tie.Need-add-i Inv-loop μ-loop
+add-i c = search needs
+
+loop-less : tie.Need-loop-less Inv-loop μ-loop
+loop-less c = search needs
+
+loop-again : tie.Need-loop-again Inv-loop μ-loop
+loop-again c = (search needs, search needs, copy-more _ _ _ _ (c .before .loop-test .taken) (c .before .before .loop .inv .2))
+
+same-length : tie.Need-same-length Inv-loop μ-loop
+same-length c = search needs
+
+returns : tie.Need-returns Inv-loop μ-loop
+returns c = copy-end _ _ _ _ (c .loop-test .left) (c .before .loop .inv .2)
+
+pub copy-spec : {M : Type 1} → statement M
+copy-spec =
+    tie.close
+    (tie.spec
+    Inv-loop
+    μ-loop
+    loop-holds
+    shared-slice-read-s
+    slice-write-s
+    add-i
+    loop-less
+    loop-again
+    same-length
+    returns)

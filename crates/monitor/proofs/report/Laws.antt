@@ -1,0 +1,66 @@
+-- What the calls that only read come to, as laws over plain values.
+use mathlib.Core.Path.{_≡_, sym, ap, _∙_}
+use mathlib.Core.Bool.{Bool, true, false, cond}
+use mathlib.Core.List.{List}
+use Prim.Native.Nat.{ℕ}
+use lib.Dec.{eqb}
+use lib.ListN.{length}
+use borrow.Author.Tests.{eq-eqb, ne-eqb}
+use Rattle.logpage.specs.Page.{pageBytes}
+use Rattle.monitor.specs.declared.record.Monitor.{Monitor}
+use Rattle.monitor.specs.Answers.{Reply, done, refused}
+use Rattle.monitor.specs.Claims.{pageByFacts, settingsByFacts}
+use Rattle.monitor.specs.History.{History, OfBytes, play}
+use Rattle.monitor.specs.Record.{untouchedIf}
+use Rattle.monitor.specs.Refusals.{pageRefusal, settingsBackRefusal}
+use Rattle.monitor.specs.Report.{shown, pageOf, afterPage, pageReply, settingsOf, afterSettingsBack, settingsBackReply}
+use Rattle.monitor.specs.Settings.{encoded}
+use Rattle.monitor.proofs.histories.Given.{page-shows-facts, settings-come-back}
+
+module _ (m : Monitor) (buffer after : List ℕ) where
+  -- what `page` promises
+  abbrev pub PageSays : Reply → Type 0
+  PageSays reply =
+      (after ≡ afterPage m buffer)
+      × ((reply ≡ pageReply (length buffer)) × ((h : History) → m ≡ play h → after ≡ pageByFacts h buffer))
+
+  page-by-facts : after ≡ afterPage m buffer → (h : History) → m ≡ play h → after ≡ pageByFacts h buffer
+  unfolding afterPage pageByFacts
+  page-by-facts e h leads =
+      e ∙ ap (untouchedIf (pageRefusal (length buffer)) buffer) (ap pageOf leads ∙ page-shows-facts h)
+
+  module _ (bytes : after ≡ cond (eqb (length buffer) 512) (pageBytes (shown m)) buffer) where
+    pub page-written : true ≡ eqb (length buffer) 512 → PageSays done
+    unfolding afterPage pageReply pageRefusal pageOf
+    page-written fits =
+        let e : after ≡ afterPage m buffer = bytes ∙ rw (← fits) in
+        (e, (rw (← fits), page-by-facts e))
+
+    pub page-refused : false ≡ eqb (length buffer) 512 → PageSays (refused 9)
+    unfolding afterPage pageReply pageRefusal
+    page-refused other =
+        let e : after ≡ afterPage m buffer = bytes ∙ rw (← other) in
+        (e, (rw (← other), page-by-facts e))
+
+  -- what `settings_back` promises
+  abbrev pub SettingsSay : Reply → Type 0
+  SettingsSay reply =
+      (after ≡ afterSettingsBack m buffer)
+      × ((reply ≡ settingsBackReply (length buffer)) × ((h : History) → OfBytes h → m ≡ play h → after ≡ settingsByFacts h buffer))
+
+  settings-by-facts : after ≡ afterSettingsBack m buffer → (h : History) → OfBytes h → m ≡ play h → after ≡ settingsByFacts h buffer
+  unfolding afterSettingsBack settingsByFacts
+  settings-by-facts e h b leads =
+      e ∙ ap (untouchedIf (settingsBackRefusal (length buffer)) buffer) (ap settingsOf leads ∙ settings-come-back h b)
+
+  pub settings-written : length buffer ≡ 4096 → after ≡ encoded (m .settings) → SettingsSay done
+  unfolding afterSettingsBack settingsBackReply settingsBackRefusal settingsOf
+  settings-written fits bytes =
+      let e : after ≡ afterSettingsBack m buffer = bytes ∙ rw (eq-eqb (length buffer) 4096 fits) in
+      (e, (rw (eq-eqb (length buffer) 4096 fits), settings-by-facts e))
+
+  pub settings-refused : (length buffer ≡ 4096 → ⊥) → after ≡ buffer → SettingsSay (refused 10)
+  unfolding afterSettingsBack settingsBackReply settingsBackRefusal
+  settings-refused other kept =
+      let e : after ≡ afterSettingsBack m buffer = kept ∙ rw (ne-eqb (length buffer) 4096 other) in
+      (e, (rw (ne-eqb (length buffer) 4096 other), settings-by-facts e))

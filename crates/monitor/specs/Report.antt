@@ -1,0 +1,42 @@
+-- The calls that only read: what they leave of the lent buffer, and what they answer.
+use mathlib.Core.List.{List}
+use Prim.Native.Nat.{ℕ}
+use lib.ListN.{length}
+use Rattle.logpage.specs.Page.{pageBytes}
+use Rattle.logpage.specs.declared.page.LogPage.{LogPage}
+use Rattle.monitor.specs.declared.record.Monitor.{Monitor}
+use Rattle.monitor.specs.Answers.{Reply, done, unlessRefused}
+use Rattle.monitor.specs.Record.{untouchedIf}
+use Rattle.monitor.specs.Refusals.{pageRefusal, settingsBackRefusal}
+use Rattle.monitor.specs.Settings.{encoded}
+
+-- what the page shows of a record
+abbrev pub shown : Monitor → LogPage
+shown m =
+    record {
+      settings = m .settings;
+      timer = m .timer;
+      «active_window» = m .«active_window»;
+      «static_window» = m .«static_window»;
+      debug = m .debug;
+    }
+
+-- the page of a record
+unfoldable pub pageOf : Monitor → List ℕ
+pageOf m = pageBytes (shown m)
+
+unfoldable pub afterPage : Monitor → List ℕ → List ℕ
+afterPage m buffer = untouchedIf (pageRefusal (length buffer)) buffer (pageOf m)
+
+unfoldable pub pageReply : ℕ → Reply
+pageReply length = unlessRefused (pageRefusal length) done
+
+-- the settings given back
+unfoldable pub settingsOf : Monitor → List ℕ
+settingsOf m = encoded (m .settings)
+
+unfoldable pub afterSettingsBack : Monitor → List ℕ → List ℕ
+afterSettingsBack m buffer = untouchedIf (settingsBackRefusal (length buffer)) buffer (settingsOf m)
+
+unfoldable pub settingsBackReply : ℕ → Reply
+settingsBackReply length = unlessRefused (settingsBackRefusal length) done
