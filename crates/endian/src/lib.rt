@@ -1,8 +1,8 @@
 // Bytes as numbers, the lowest byte first. Knows nothing of the monitor.
 mod stores;
 
-pub use stores::put;
 pub use stores::copy;
+pub use stores::put;
 pub use stores::put_fields;
 ghost use mathlib.Core.Path.{_≡_};
 ghost use Rattle.endian.specs.Bytes.{word, anySet};

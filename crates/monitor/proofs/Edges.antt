@@ -1,5 +1,7 @@
 -- The table of edges: each row is computed.
 use mathlib.Core.Path.{refl}
+use native.Mathlib.Omega.{arith}
+use Rattle.logpage.proofs.Places.{stamp-at}
 use Rattle.logpage.specs.Fields.{emptyWindow, noDebugLog}
 use Rattle.monitor.specs.Commands.{kindOf, highestBelow, bucketOf, counterOf, millisecondsOf}
 use Rattle.monitor.specs.Counting.{loads, countedIn, triggers}
@@ -10,4 +12,4 @@ use Rattle.monitor.specs.Timer.{ticked}
 
 pub edges-hold : EdgesHold
 unfolding completionReply afterCompletion counterOf bucketOf highestBelow kindOf millisecondsOf loads triggers countedIn elapsedReplies elapsedReply afterElapsed elapsedRefusal ticked emptyWindow noDebugLog
-edges-hold = (refl, (refl, (refl, (refl, (refl, (refl, (refl, (refl, (refl, (refl, tt))))))))))
+edges-hold = (refl, (refl, (refl, (refl, (refl, (refl, (refl, (refl, (refl, (refl, (λ p. stamp-at p 9 (omega arith), (λ p. stamp-at p 2 (omega arith), tt))))))))))))

@@ -6,3 +6,4 @@ pub mod Elapsed
 pub mod Play
 pub mod Bounds
 pub mod Given
+pub mod Pages

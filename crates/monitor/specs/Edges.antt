@@ -3,9 +3,12 @@ use mathlib.Core.Path.{_≡_}
 use mathlib.Core.Bool.{Bool, true, false}
 use mathlib.Core.List.{List, [], _∷_}
 use mathlib.Core.Option.{Option, none, some}
-use Prim.Native.Nat.{ℕ, _*_}
-use lib.ListN.{getD, replicate}
+use Prim.Native.Nat.{ℕ, _+_, _*_}
+use lib.ListN.{getD, take, drop}
+use Rattle.endian.specs.Stores.{lowFirst}
 use Rattle.logpage.specs.Fields.{emptyWindow, noDebugLog}
+use Rattle.logpage.specs.Page.{pageBytes}
+use Rattle.logpage.specs.declared.page.LogPage.{LogPage}
 use Rattle.monitor.specs.declared.commands.Completion.{Completion}
 use Rattle.monitor.specs.declared.record.Monitor.{Monitor}
 use Rattle.monitor.specs.Answers.{Reply, notCounted, counted, ended}
@@ -48,11 +51,12 @@ elapsedReplies m [] = []
 elapsedReplies m (ms ∷ later) = elapsedReply m ms ∷ elapsedReplies (afterElapsed m ms) later
 
 -- a row of the table: a Read and its bucket, by these thresholds; a Read and what its bucket shows then, in ms; elapsed
--- times by this timer threshold, and whether each ends a window
+-- times by this timer threshold, and whether each ends a window; a bucket, a kind, and the page byte of their stamp
 pub data Edge : Type 0 where
   bucket : (thresholds : List ℕ) (us : ℕ) → Option ℕ → Edge
   shows : (us bucket ms : ℕ) → Edge
   ends : (threshold : ℕ) → List ℕ → List Bool → Edge
+  stampAt : (bucket kind place : ℕ) → Edge
 
 -- the Read counter of a bucket is 3 × bucket; its first completion loads the stamp
 abbrev pub readReply : Option ℕ → Reply
@@ -69,6 +73,8 @@ Holds (bucket thresholds us b) = completionReply (enabledWith 1 thresholds) (rea
 Holds (shows us b ms) =
     getD (afterCompletion (enabledWith 1 usual) (read us) .«active_window» .latencies) (3 * b) 0 ≡ ms
 Holds (ends threshold times replies) = elapsedReplies (enabledWith threshold usual) times ≡ endedReplies replies
+Holds (stampAt b k place) =
+    (p : LogPage) → take 8 (drop place (pageBytes p)) ≡ lowFirst 8 (getD (p .«active_window» .stamps) (3 * b + k) 0)
 
 abbrev pub edges : List Edge
 edges =

@@ -39,14 +39,14 @@ decoded s =
 -- Giving settings back fills all 4,096 bytes, the discard byte as 0.
 unfoldable pub encoded : Settings → List ℕ
 encoded s =
-    lowFirst 2 (s .«timer_threshold») -- 0-1
-    ++ lowFirst 1 (byte (s .thresholds) 0) -- 2 to 5
+    lowFirst 2 (s .«timer_threshold»)  -- 0-1
+    ++ lowFirst 1 (byte (s .thresholds) 0)  -- 2 to 5
     ++ lowFirst 1 (byte (s .thresholds) 1)
     ++ lowFirst 1 (byte (s .thresholds) 2)
     ++ lowFirst 1 (byte (s .thresholds) 3)
-    ++ lowFirst 2 (s .mode) -- 6-7
-    ++ lowFirst 1 (s .«minimum_window») -- 8
-    ++ lowFirst 2 (s .trigger) -- 9-10
-    ++ zeros 1 -- 11
-    ++ lowFirst 1 (bit (s .enabled)) -- 12
+    ++ lowFirst 2 (s .mode)  -- 6-7
+    ++ lowFirst 1 (s .«minimum_window»)  -- 8
+    ++ lowFirst 2 (s .trigger)  -- 9-10
+    ++ zeros 1  -- 11
+    ++ lowFirst 1 (bit (s .enabled))  -- 12
     ++ zeros 4083

@@ -8,19 +8,21 @@ use native.Mathlib.Decide.{decLt}
 use native.Mathlib.Omega.{arith}
 use lib.ListN.{getD, length}
 use lib.Pow.{pow-lt}
+use Rattle.logpage.proofs.Apart.{FitsSettings, FitsWindow, FitsDebug, Fits}
 use Rattle.logpage.specs.Fields.{unset, noSettings, noDebugLog}
 use Rattle.logpage.specs.declared.DebugLog.{DebugLog}
 use Rattle.logpage.specs.declared.Settings.{Settings}
 use Rattle.monitor.specs.declared.commands.Completion.{Completion}
 use Rattle.monitor.specs.Commands.{counterOf, millisecondsOf}
-use Rattle.monitor.specs.Facts.{inForce, sum, clockAt, enables, enabledThreshold, threshold, enabledTime, whileEnabled, windowAt, timerAt, Counted, countedAt, those, countOf, lastLoad, stampOf, latencyOf, triggered, discards, orFirst, first, logOf, debugAt}
+use Rattle.monitor.specs.Facts.{inForce, sum, clockAt, enables, enabledThreshold, threshold, enabledTime, whileEnabled, windowAt, timerAt, Counted, countedAt, those, countOf, lastLoad, stampOf, latencyOf, triggered, discards, orFirst, first, logOf, debugAt, active, static, from, windowOf, factsOf}
 use Rattle.monitor.specs.History.{Call, settings, completion, elapsed, clock, powerUp, page, settingsBack, History, Bytes, BytesIn, OfBytes, Effect, configured, completed, passed, clockSet, poweredUp, nothing, ifAccepted, asked, refusalOf, effectOf, Past, pastOf, settingsIn, completionIn, found, orElse, latest, andThen, since}
 use Rattle.monitor.specs.Refusals.{settingsRefusal, elapsedRefusal, clockRefusal, pageRefusal, settingsBackRefusal}
 use Rattle.monitor.specs.Settings.{decoded}
 use Rattle.monitor.proofs.refusals.Laws.{Accepted, accepted}
 use Rattle.monitor.proofs.commands.Laws.{counter-below}
 use Rattle.monitor.proofs.histories.Facts.{Good, enabled-positive, clock-top}
-use Rattle.monitor.proofs.histories.Lists.{All, Some, all-those}
+use Rattle.monitor.proofs.histories.Lists.{All, Some, all-those, length-from}
+use Rattle.monitor.proofs.histories.Play.{good}
 use Rattle.monitor.proofs.histories.Windows.{low, high}
 
 -- what the latest place finds, and what is found since a place, have what each place finds
@@ -50,36 +52,28 @@ byte-at [] b i = omega arith
 byte-at (x ∷ s) b zero = b .0
 byte-at (x ∷ s) b (suc i) = byte-at s (b .1) i
 
-pub record Narrow (s : Settings) : Type 0 where
-  pub timer-threshold : s .«timer_threshold» < 65536
-  pub mode : s .mode < 65536
-  pub trigger : s .trigger < 65536
-  pub four : length (s .thresholds) ≡ 4
-  pub thresholds : (i : ℕ) → getD (s .thresholds) i 0 < 256
-  pub minimum-window : s .«minimum_window» < 256
-
-narrow : (s : List ℕ) → Bytes s → Narrow (decoded s)
+settings-of-bytes : (s : List ℕ) → Bytes s → FitsSettings (decoded s)
 unfolding decoded
-narrow s b =
+settings-of-bytes s b =
     record {
-      timer-threshold = omega (arith, byte-at s b 0, byte-at s b 1);
+      threshold = omega (arith, byte-at s b 0, byte-at s b 1);
       mode = omega (arith, byte-at s b 6, byte-at s b 7);
       trigger = omega (arith, byte-at s b 9, byte-at s b 10);
       four = refl;
       thresholds = byte-at (getD s 2 0 ∷ getD s 3 0 ∷ getD s 4 0 ∷ getD s 5 0 ∷ []) (byte-at s b 2, (byte-at s b 3, (byte-at s b 4, (byte-at s b 5, tt))));
-      minimum-window = byte-at s b 8;
+      minimum = byte-at s b 8;
     }
 
-none-narrow : Narrow noSettings
+none-fit : FitsSettings noSettings
 unfolding noSettings
-none-narrow =
+none-fit =
     record {
-      timer-threshold = omega arith;
+      threshold = omega arith;
       mode = omega arith;
       trigger = omega arith;
       four = refl;
       thresholds = byte-at (0 ∷ 0 ∷ 0 ∷ 0 ∷ []) (omega arith, (omega arith, (omega arith, (omega arith, tt))));
-      minimum-window = omega arith;
+      minimum = omega arith;
     }
 
 -- the settings that a history accepts are bytes
@@ -112,20 +106,20 @@ sound-past [] b = tt
 sound-past (c ∷ h) b = (sound-call c (b .0), sound-past h (b .1))
 
 module _ (past : Past) (sound : SoundPast past) where
-  pub in-force-narrow : Narrow (inForce past)
+  settings-fit : FitsSettings (inForce past)
   unfolding inForce
-  in-force-narrow = by (latest settingsIn past) (latest-some Sound settingsIn past sound)
+  settings-fit = by (latest settingsIn past) (latest-some Sound settingsIn past sound)
     where
-      by : (o : Option (List ℕ)) → Some Sound o → Narrow (found noSettings decoded o)
-      by none k = none-narrow
-      by (some s) k = narrow s (k .bytes)
+      by : (o : Option (List ℕ)) → Some Sound o → FitsSettings (found noSettings decoded o)
+      by none k = none-fit
+      by (some s) k = settings-of-bytes s (k .bytes)
 
   threshold-below : threshold past < 65536
   unfolding threshold
   threshold-below = by (latest enabledThreshold past) (latest-some (λ p. p < 65536) enabledThreshold past (each-below past sound))
     where
       of-settings : (s : List ℕ) → Sound s → (b : Bool) → Some (λ p. p < 65536) (cond b (some (decoded s .«timer_threshold»)) none)
-      of-settings s k true = narrow s (k .bytes) .timer-threshold
+      of-settings s k true = settings-of-bytes s (k .bytes) .threshold
       of-settings s k false = tt
 
       of-effect : (o : Option (List ℕ)) → Some Sound o → Some (λ p. p < 65536) (found none (λ s. cond (decoded s .enabled) (some (decoded s .«timer_threshold»)) none) o)
@@ -159,7 +153,7 @@ unstarted (clockSet value ∷ past) g z = unstarted past (g .1) z
 unstarted (poweredUp ∷ past) g z = unstarted past (g .1) z
 unstarted (nothing ∷ past) g z = unstarted past (g .1) z
 
-pub timer-below : (past : Past) → Good past → SoundPast past → timerAt past < 65536
+timer-below : (past : Past) → Good past → SoundPast past → timerAt past < 65536
 unfolding timerAt windowAt
 timer-below past g sound = by (decLt 0 (threshold past))
   where
@@ -168,11 +162,11 @@ timer-below past g sound = by (decLt 0 (threshold past))
     by (no h) = omega (arith, unstarted past g (omega arith))
 
 -- what a window shows
-pub count-below : (xs : List Counted) → countOf xs < 4294967296
+count-below : (xs : List Counted) → countOf xs < 4294967296
 unfolding countOf
 count-below xs = omega arith
 
-pub stamp-below : (load : Option Counted) → stampOf load < 18446744073709551616
+stamp-below : (load : Option Counted) → stampOf load < 18446744073709551616
 stamp-below none = omega arith
 stamp-below (some x) = omega (arith, clock-top (x .before))
 
@@ -180,7 +174,7 @@ ms-below : (c : Completion) → millisecondsOf c < 65536
 unfolding millisecondsOf
 ms-below c = omega arith
 
-pub latency-below : (load : Option Counted) → latencyOf load < 65536
+latency-below : (load : Option Counted) → latencyOf load < 65536
 latency-below none = omega arith
 latency-below (some x) = ms-below (x .command)
 
@@ -208,18 +202,13 @@ first-some P (x ∷ xs) a = by (first xs) (first-some P xs (a .1))
     by none k = a .0
     by (some y) k = k
 
-pub record NarrowLog (d : DebugLog) : Type 0 where
-  pub stamp : d .stamp < 18446744073709551616
-  pub latency : d .latency < 65536
-  pub source : d .source < 65536
-
-pub debug-narrow : (past : Past) → NarrowLog (debugAt past)
+debug-fits : (past : Past) → FitsDebug (debugAt past)
 unfolding debugAt noDebugLog
-debug-narrow past =
+debug-fits past =
     by (first (those triggered (since discards countedAt past)))
     (first-some OfTwelve _ (all-those triggered (λ x t k. k) _ (since-all OfTwelve discards countedAt few past)))
   where
-    by : (o : Option Counted) → Some OfTwelve o → NarrowLog (found noDebugLog logOf o)
+    by : (o : Option Counted) → Some OfTwelve o → FitsDebug (found noDebugLog logOf o)
     by none k = record { stamp = omega arith; latency = omega arith; source = omega arith }
     by (some x) k =
         record {
@@ -227,3 +216,33 @@ debug-narrow past =
           latency = ms-below (x .command);
           source = omega (arith, pow-lt k);
         }
+
+-- what the page shows
+each-below : (top : ℕ) (f : ℕ → ℕ) → 0 < top → ((k : ℕ) → f k < top) → (i n k : ℕ) → getD (from i n f) k 0 < top
+unfolding from
+each-below top f z h i zero k = z
+each-below top f z h i (suc n) zero = h i
+each-below top f z h i (suc n) (suc k) = each-below top f z h (suc i) n k
+
+window-fits : (completions : ℕ → List Counted) → FitsWindow (windowOf completions)
+window-fits completions =
+    record {
+      twelve-counters = length-from 0 12 _;
+      counters = each-below 4294967296 _ (omega arith) (λ k. count-below (completions k)) 0 12;
+      twelve-stamps = length-from 0 12 _;
+      stamps = each-below 18446744073709551616 _ (omega arith) (λ k. stamp-below (lastLoad (completions k))) 0 12;
+      twelve-latencies = length-from 0 12 _;
+      latencies = each-below 65536 _ (omega arith) (λ k. latency-below (lastLoad (completions k))) 0 12;
+      twelve-units = length-from 0 12 _;
+    }
+
+pub facts-fit : (h : History) → OfBytes h → Fits (factsOf (pastOf h))
+unfolding factsOf
+facts-fit h b =
+    record {
+      settings = settings-fit (pastOf h) (sound-past h b);
+      timer = timer-below (pastOf h) (good h) (sound-past h b);
+      active = window-fits (active (pastOf h));
+      static = window-fits (static (pastOf h));
+      debug = debug-fits (pastOf h);
+    }

@@ -75,15 +75,26 @@ round-trip s b a = ap front (sym rest) ∙ laid ∙ ap (λ t. set t 11 0) (sym (
         lowFirst 2 (getD s 0 0 + 256 * getD s 1 0) ++ lowFirst 1 (getD s 2 0) ++ lowFirst 1 (getD s 3 0) ++ lowFirst 1 (getD s 4 0)
         ++ lowFirst 1 (getD s 5 0) ++ lowFirst 2 (getD s 6 0 + 256 * getD s 7 0) ++ lowFirst 1 (getD s 8 0)
         ++ lowFirst 2 (getD s 9 0 + 256 * getD s 10 0) ++ (0 ∷ []) ++ lowFirst 1 (bit (eqb (getD s 12 0) 1)) ++ t
+
     rest : drop 13 s ≡ replicate 4083 0
     rest = none-set (drop 13 s) (a .clear) ∙ rw (length-drop 13 s, a .whole)
+
     enable-flag : getD s 12 0 ≤ 1
     enable-flag = ltb-false 1 (getD s 12 0) (or-false (ltb 1 (discard s)) (ltb 1 (enable s)) (a .flags) .1)
+
     laid : front (drop 13 s) ≡ set (from 0 13 (λ k. getD s k 0) ++ drop 13 s) 11 0
     laid =
-        rw (low-word (getD s 0 0) (getD s 1 0) (byte-at s b 0) (byte-at s b 1), low-byte (getD s 2 0) (byte-at s b 2), low-byte (getD s 3 0) (byte-at s b 3),
-        low-byte (getD s 4 0) (byte-at s b 4), low-byte (getD s 5 0) (byte-at s b 5), low-word (getD s 6 0) (getD s 7 0) (byte-at s b 6) (byte-at s b 7),
-        low-byte (getD s 8 0) (byte-at s b 8), low-word (getD s 9 0) (getD s 10 0) (byte-at s b 9) (byte-at s b 10), flag-byte (getD s 12 0) enable-flag)
+        rw (
+          low-word (getD s 0 0) (getD s 1 0) (byte-at s b 0) (byte-at s b 1),
+          low-byte (getD s 2 0) (byte-at s b 2),
+          low-byte (getD s 3 0) (byte-at s b 3),
+          low-byte (getD s 4 0) (byte-at s b 4),
+          low-byte (getD s 5 0) (byte-at s b 5),
+          low-word (getD s 6 0) (getD s 7 0) (byte-at s b 6) (byte-at s b 7),
+          low-byte (getD s 8 0) (byte-at s b 8),
+          low-word (getD s 9 0) (getD s 10 0) (byte-at s b 9) (byte-at s b 10),
+          flag-byte (getD s 12 0) enable-flag,
+        )
 
 none-back : encoded noSettings ≡ replicate 4096 0
 unfolding encoded noSettings lowFirst

@@ -1,0 +1,69 @@
+-- The pages after two histories are equal exactly when the histories agree.
+use Prim.Native.Nat.{ℕ, _<_}
+use mathlib.Core.Path.{_≡_, sym, ap, _∙_}
+use mathlib.Core.Bool.{false}
+use mathlib.Core.List.{List}
+use lib.ListN.{getD}
+use native.Mathlib.Nat.{zero-add}
+use Rattle.logpage.proofs.Apart.{page-apart}
+use Rattle.logpage.specs.Page.{pageBytes}
+use Rattle.logpage.specs.declared.Window.{Window}
+use Rattle.monitor.specs.Claims.{SameCounter, Agree, PagesAgree}
+use Rattle.monitor.specs.Facts.{inForce, timerAt, active, static, Counted, countOf, lastLoad, stampOf, latencyOf, unitsOf, each, windowOf, debugAt, factsOf}
+use Rattle.monitor.specs.History.{History, pastOf}
+use Rattle.monitor.proofs.histories.Bounds.{facts-fit}
+use Rattle.monitor.proofs.histories.Given.{page-shows-facts}
+use Rattle.monitor.proofs.histories.Lists.{from-at, from-same}
+
+each-at : {A : Type 0} (d : A) (f g : ℕ → A) → each f ≡ each g → (n : ℕ) → n < 12 → f n ≡ g n
+each-at d f g e n few =
+    rw (zero-add n) at (sym (from-at 0 12 f n d few) ∙ ap (λ l. getD l n d) e ∙ from-at 0 12 g n d few)
+
+-- windows, by the completions counted for each counter
+module _ (f g : ℕ → List Counted) where
+  windows-same : ((n : ℕ) → n < 12 → SameCounter (f n) (g n)) → windowOf f ≡ windowOf g
+  windows-same h =
+      λ i. record {
+        counters = from-same 0 12 (λ n. countOf (f n)) (λ n. countOf (g n)) (λ n l few. h n few .count) i;
+        stamps = from-same 0 12 (λ n. stampOf (lastLoad (f n))) (λ n. stampOf (lastLoad (g n))) (λ n l few. h n few .stamp) i;
+        latencies = from-same 0 12 (λ n. latencyOf (lastLoad (f n))) (λ n. latencyOf (lastLoad (g n))) (λ n l few. h n few .latency) i;
+        units = from-same 0 12 (λ n. unitsOf (lastLoad (f n))) (λ n. unitsOf (lastLoad (g n))) (λ n l few. h n few .units) i;
+      }
+
+  counters-same : windowOf f ≡ windowOf g → (n : ℕ) → n < 12 → SameCounter (f n) (g n)
+  counters-same e n few =
+      record {
+        count = each-at 0 (λ k. countOf (f k)) (λ k. countOf (g k)) (ap (λ w. w .counters) e) n few;
+        stamp = each-at 0 (λ k. stampOf (lastLoad (f k))) (λ k. stampOf (lastLoad (g k))) (ap (λ w. w .stamps) e) n few;
+        latency = each-at 0 (λ k. latencyOf (lastLoad (f k))) (λ k. latencyOf (lastLoad (g k))) (ap (λ w. w .latencies) e) n few;
+        units = each-at false (λ k. unitsOf (lastLoad (f k))) (λ k. unitsOf (lastLoad (g k))) (ap (λ w. w .units) e) n few;
+      }
+
+module _ (h k : History) where
+  facts-same : Agree h k → factsOf (pastOf h) ≡ factsOf (pastOf k)
+  unfolding factsOf
+  facts-same a =
+      λ i. record {
+        settings = a .settings i;
+        timer = a .timer i;
+        «active_window» = windows-same (active (pastOf h)) (active (pastOf k)) (a .active-window) i;
+        «static_window» = windows-same (static (pastOf h)) (static (pastOf k)) (a .static-window) i;
+        debug = a .debug i;
+      }
+
+  facts-agree : factsOf (pastOf h) ≡ factsOf (pastOf k) → Agree h k
+  unfolding factsOf
+  facts-agree e =
+      record {
+        settings = ap (λ p. p .settings) e;
+        timer = ap (λ p. p .timer) e;
+        active-window = counters-same (active (pastOf h)) (active (pastOf k)) (ap (λ p. p .«active_window») e);
+        static-window = counters-same (static (pastOf h)) (static (pastOf k)) (ap (λ p. p .«static_window») e);
+        debug = ap (λ p. p .debug) e;
+      }
+
+pub pages-agree : PagesAgree
+pages-agree h k b c = (
+  λ e. facts-agree h k (page-apart _ _ (facts-fit h b) (facts-fit k c) (sym (page-shows-facts h) ∙ e ∙ page-shows-facts k)),
+  λ a. page-shows-facts h ∙ ap pageBytes (facts-same h k a) ∙ sym (page-shows-facts k),
+)
