@@ -88,6 +88,8 @@ edges =
     ∷ shows 7999 0 7  -- P8
     ∷ bucket (1 ∷ 1 ∷ 3 ∷ 9 ∷ []) 10000 (some 1)  -- P9
     ∷ ends 1 (299999 ∷ 1 ∷ []) (false ∷ true ∷ [])  -- P10
+    ∷ stampAt 3 0 112  -- P11
+    ∷ stampAt 0 2 168  -- P12
     ∷ []
 
 abbrev pub Every : (Edge → Type 0) → List Edge → Type 0
