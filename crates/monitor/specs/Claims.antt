@@ -1,20 +1,31 @@
 -- What is claimed of every history. The proofs are in proofs/histories/.
 use mathlib.Core.Path.{_≡_}
-use mathlib.Core.Bool.{Bool}
-use mathlib.Core.List.{List}
+use mathlib.Core.Bool.{not}
+use mathlib.Core.List.{List, _∷_}
 use mathlib.Core.Logic.{_↔_}
+use mathlib.Core.Option.{none}
 use Prim.Native.Nat.{ℕ, _<_}
+use lib.Dec.{eqb}
 use lib.ListN.{length, set, replicate}
 use Rattle.logpage.specs.Page.{pageBytes}
-use Rattle.monitor.specs.Facts.{inForce, timerAt, active, static, Counted, countOf, lastLoad, stampOf, latencyOf, unitsOf, debugAt, factsOf, recordOf}
-use Rattle.monitor.specs.History.{History, OfBytes, settingsIn, found, latest, pastOf, play}
-use Rattle.monitor.specs.Record.{untouchedIf}
-use Rattle.monitor.specs.Refusals.{pageRefusal, settingsBackRefusal}
+use Rattle.monitor.specs.Facts.{inForce, windowAt, timerAt, active, static, Counted, countOf, lastLoad, stampOf, latencyOf, unitsOf, debugAt, factsOf, recordOf}
+use Rattle.monitor.specs.History.{elapsed, History, OfBytes, settingsIn, found, latest, pastOf, play}
+use Rattle.monitor.specs.Answers.{ended}
+use Rattle.monitor.specs.Record.{untouchedIf, elapsedReply}
+use Rattle.monitor.specs.Refusals.{elapsedRefusal, pageRefusal, settingsBackRefusal}
 use Rattle.monitor.specs.Report.{pageOf, settingsOf}
 
 -- Playing a history by the calls' own definitions gives the record that its facts describe.
 abbrev pub PlayedAsFacts : Type 0
 PlayedAsFacts = (h : History) → play h ≡ recordOf (pastOf h)
+
+-- So, while enabled, a window ends in the very call where elapsed time since settings with enable 1 were last accepted
+-- first reaches a positive multiple of threshold × 300,000 ms: where the number of the running window grows.
+abbrev pub WindowEnds : Type 0
+WindowEnds =
+    (h : History) (ms : ℕ) →
+    elapsedRefusal ms ≡ none →
+    elapsedReply (play h) ms ≡ ended (not (eqb (windowAt (pastOf (elapsed ms ∷ h))) (windowAt (pastOf h))))
 
 -- Demand 2, the page: after any history it is the one that the page table makes of the facts.
 abbrev pub PageShowsFacts : Type 0

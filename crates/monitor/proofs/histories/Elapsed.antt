@@ -1,20 +1,21 @@
 -- Elapsed time makes of the record that the facts describe the one that they describe after it.
 use Prim.Native.Nat.{ℕ, suc, _+_, _*_, _-_, _/_, _%_, _≤_, _<_, min}
 use mathlib.Core.Path.{_≡_, refl, sym, ap, _∙_}
-use mathlib.Core.Bool.{Bool, true, false, cond, _&&_}
+use mathlib.Core.Bool.{Bool, true, false, cond, not, _&&_}
 use mathlib.Core.List.{List, [], _∷_}
 use mathlib.Core.Option.{Option, none, some}
 use native.Mathlib.Numerals.{add-one}
 use native.Mathlib.Omega.{arith}
 use lib.Dec.{eqb, leb, ltb, eqb·suc-suc}
 use lib.ListN.{length, replicate}
-use borrow.Author.Tests.{ne-eqb, lt-ltb, le-ltb, le-leb, lt-leb, leb-true, leb-false, ltb-true, ltb-false}
+use borrow.Author.Tests.{eq-eqb, ne-eqb, lt-ltb, le-ltb, le-leb, lt-leb, leb-true, leb-false, ltb-true, ltb-false}
 use Rattle.logpage.specs.Fields.{emptyWindow}
 use Rattle.monitor.specs.declared.record.Monitor.{Monitor}
 use Rattle.monitor.specs.declared.timer.Tick.{Tick}
 use Rattle.monitor.specs.Facts.{inForce, sum, clockAt, hostSet, enables, threshold, enabledTime, windowAt, timerAt, Counted, countedAt, those, activeFor, active, static, countOf, lastLoad, stampOf, latencyOf, unitsOf, loadedOf, each, windowOf, debugAt, recordOf}
 use Rattle.monitor.specs.History.{passed, Past, latest, since}
-use Rattle.monitor.specs.Record.{noLoads, afterElapsed}
+use Rattle.monitor.specs.Answers.{ended}
+use Rattle.monitor.specs.Record.{noLoads, afterElapsed, elapsedReply}
 use Rattle.monitor.specs.Timer.{grown, tick, ticked}
 use Rattle.monitor.proofs.record.Laws.{moved, elapsed-accepted}
 use Rattle.monitor.proofs.histories.Facts.{Good, Fine, fine, span, enabled-threshold, enabled-positive, within, preceding, described}
@@ -102,42 +103,65 @@ module _ (past : Past) (g : Good past) (ms : ℕ) (fits : ms ≤ 300000) where
   abbrev p : ℕ
   p = threshold past
 
+  -- the record that elapsed time leaves, and its answer, once the time while enabled is u
+  abbrev Comes : ℕ → Type 0
+  Comes u =
+      (afterElapsed (recordOf past) ms ≡ after-time past ms u)
+      × (elapsedReply (recordOf past) ms ≡ ended (not (eqb (u / span past) (windowAt past))))
+
   -- the record's own step, once the timer's is known
-  moves :
-      (next : Tick) (expired : Bool) →
+  comes :
+      (u : ℕ) (next : Tick) (expired : Bool) →
       next ≡ ticked (inForce past .enabled) (inForce past .«timer_threshold») (timerAt past) (t % 300000) ms →
       next .expired ≡ expired →
-      afterElapsed (recordOf past) ms ≡ moved (recordOf past) (grown (clockAt past) ms) next expired
+      expired ≡ not (eqb (u / span past) (windowAt past)) →
+      moved (recordOf past) (grown (clockAt past) ms) next expired ≡ after-time past ms u →
+      Comes u
   unfolding recordOf
-  moves next expired e q = sym (elapsed-accepted (recordOf past) ms (grown (clockAt past) ms) next expired fits e refl q .0)
+  comes u next expired e q w m =
+      let laws = elapsed-accepted (recordOf past) ms (grown (clockAt past) ms) next expired fits e refl q in
+      (sym (laws .0) ∙ m, sym (laws .1) ∙ ap ended w)
 
-  off : inForce past .enabled ≡ false → afterElapsed (recordOf past) ms ≡ after-time past ms t
+  -- the window goes on, or ends
+  same-window : (u : ℕ) → u / span past ≡ windowAt past → false ≡ not (eqb (u / span past) (windowAt past))
+  same-window u e = rw (eq-eqb (u / span past) (windowAt past) e)
+
+  next-window : (u : ℕ) → u / span past ≡ suc (windowAt past) → true ≡ not (eqb (u / span past) (windowAt past))
+  next-window u e = rw (ne-eqb (u / span past) (windowAt past) (λ q. omega (arith, q, e)))
+
+  off : inForce past .enabled ≡ false → Comes t
   unfolding recordOf timerAt windowAt active static
-  off e = moves (tick (timerAt past) (t % 300000) false) false (rw e (tick-off _ (timerAt past) (t % 300000) ms)) refl
+  off e =
+      comes t (tick (timerAt past) (t % 300000) false) false (rw e (tick-off _ (timerAt past) (t % 300000) ms)) refl
+      (same-window t refl) refl
 
   module _ (on : inForce past .enabled ≡ true) where
     positive : 0 < p
     positive = enabled-positive past g on
 
-    few : t % 300000 + ms < 300000 → afterElapsed (recordOf past) ms ≡ after-time past ms (t + ms)
+    few : t % 300000 + ms < 300000 → Comes (t + ms)
     unfolding recordOf timerAt windowAt active static
     few h =
-        moves (tick (timerAt past) (t % 300000 + ms) false) false (rw on (tick-few _ (timerAt past) (t % 300000) ms h)) refl ∙
+        comes (t + ms) (tick (timerAt past) (t % 300000 + ms) false) false
+        (rw on (tick-few _ (timerAt past) (t % 300000) ms h)) refl
+        (same-window (t + ms) (none-window t ms p positive h))
         (rw (none-window t ms p positive h, none-partial t ms p positive h, none-taken t ms p positive h))
 
     module _ (many : 300000 ≤ t % 300000 + ms) where
-      more : timerAt past + 1 < p → afterElapsed (recordOf past) ms ≡ after-time past ms (t + ms)
+      more : timerAt past + 1 < p → Comes (t + ms)
       unfolding recordOf timerAt windowAt active static
       more h =
-          moves (tick (timerAt past + 1) (t % 300000 + ms - 300000) false) false
-          (rw (on, enabled-threshold past on) (tick-more p (timerAt past) (t % 300000) ms many h)) refl ∙
+          comes (t + ms) (tick (timerAt past + 1) (t % 300000 + ms - 300000) false) false
+          (rw (on, enabled-threshold past on) (tick-more p (timerAt past) (t % 300000) ms many h)) refl
+          (same-window (t + ms) (goes-on t ms fits many p positive h))
           (rw (goes-on t ms fits many p positive h, one-partial t ms fits many, one-taken t ms fits many, one-more t p))
 
-      end : p ≤ timerAt past + 1 → afterElapsed (recordOf past) ms ≡ after-time past ms (t + ms)
+      end : p ≤ timerAt past + 1 → Comes (t + ms)
       unfolding recordOf timerAt windowAt
       end h =
-          moves (tick 0 (t % 300000 + ms - 300000) true) true
-          (rw (on, enabled-threshold past on) (tick-end p (timerAt past) (t % 300000) ms many h)) refl ∙
+          comes (t + ms) (tick 0 (t % 300000 + ms - 300000) true) true
+          (rw (on, enabled-threshold past on) (tick-end p (timerAt past) (t % 300000) ms many h)) refl
+          (next-window (t + ms) (ends t ms fits many p positive h))
           (rw (ends-timer t ms fits many p positive h, ends t ms fits many p positive h, one-partial t ms fits many)
           (λ i. record {
             settings = inForce past;
@@ -151,17 +175,24 @@ module _ (past : Past) (g : Good past) (ms : ℕ) (fits : ms ≤ 300000) where
             «active_window» = empty-handed past g i;
           }))
 
-    step : (b : Bool) → leb 300000 (t % 300000 + ms) ≡ b → afterElapsed (recordOf past) ms ≡ after-time past ms (t + ms)
+    step : (b : Bool) → leb 300000 (t % 300000 + ms) ≡ b → Comes (t + ms)
     step false q = few (leb-false _ _ q)
     step true q = by (leb p (timerAt past + 1)) refl
       where
-        by : (b : Bool) → leb p (timerAt past + 1) ≡ b → afterElapsed (recordOf past) ms ≡ after-time past ms (t + ms)
+        by : (b : Bool) → leb p (timerAt past + 1) ≡ b → Comes (t + ms)
         by false r = more (leb-true _ _ q) (leb-false _ _ r)
         by true r = end (leb-true _ _ q) (leb-true _ _ r)
 
-  pub elapsed-step : afterElapsed (recordOf past) ms ≡ recordOf (passed ms ∷ past)
-  elapsed-step = by (inForce past .enabled) refl ∙ sym (facts-after past ms)
+  came : Comes (enabledTime (passed ms ∷ past))
+  came = by (inForce past .enabled) refl
     where
-      by : (b : Bool) → inForce past .enabled ≡ b → afterElapsed (recordOf past) ms ≡ after-time past ms (enabledTime (passed ms ∷ past))
+      by : (b : Bool) → inForce past .enabled ≡ b → Comes (enabledTime (passed ms ∷ past))
       by true on = rw (time-after past ms true on) (step on (leb 300000 (t % 300000 + ms)) refl)
       by false e = rw (time-after past ms false e) (off e)
+
+  pub elapsed-step : afterElapsed (recordOf past) ms ≡ recordOf (passed ms ∷ past)
+  elapsed-step = came .0 ∙ sym (facts-after past ms)
+
+  pub elapsed-answer : elapsedReply (recordOf past) ms ≡ ended (not (eqb (windowAt (passed ms ∷ past)) (windowAt past)))
+  unfolding windowAt threshold latest
+  elapsed-answer = came .1

@@ -10,16 +10,16 @@ use lib.Dec.{eqb, ltb}
 use borrow.Author.Tests.{le-ltb, ltb-true, ltb-false, eqb-true, eqb-false}
 use Rattle.logpage.specs.Fields.{noSettings, emptyWindow, noDebugLog}
 use Rattle.monitor.specs.declared.record.Monitor.{Monitor}
-use Rattle.monitor.specs.Claims.{PlayedAsFacts}
+use Rattle.monitor.specs.Claims.{PlayedAsFacts, WindowEnds}
 use Rattle.monitor.specs.Facts.{inForce, sum, clockAt, hostSet, enables, threshold, enabledTime, windowAt, timerAt, Counted, countedAt, those, active, static, countOf, lastLoad, from, each, windowOf, loadedOf, discards, triggered, first, logOf, debugAt, recordOf}
 use Rattle.monitor.specs.History.{Call, settings, completion, elapsed, clock, powerUp, page, settingsBack, History, after, playFrom, play, Effect, configured, clockSet, poweredUp, nothing, passed, asked, refusalOf, ifAccepted, effectOf, Past, pastOf, found, latest, since}
-use Rattle.monitor.specs.Record.{newMonitor, afterSettings, afterElapsed, afterClock, afterPowerUp}
+use Rattle.monitor.specs.Record.{newMonitor, afterSettings, afterElapsed, elapsedReply, afterClock, afterPowerUp}
 use Rattle.monitor.specs.Refusals.{settingsRefusal, fieldRefusal, elapsedRefusal, clockRefusal, eitherAbove, pageRefusal, settingsBackRefusal}
 use Rattle.monitor.specs.Settings.{decoded, discard}
 use Rattle.monitor.proofs.record.Laws.{configured as reset, settings-accepted}
 use Rattle.monitor.proofs.refusals.Laws.{accepted, elapsed-fits, clock-fits}
 use Rattle.monitor.proofs.histories.Completions.{completion-step}
-use Rattle.monitor.proofs.histories.Elapsed.{elapsed-step}
+use Rattle.monitor.proofs.histories.Elapsed.{elapsed-step, elapsed-answer}
 use Rattle.monitor.proofs.histories.Facts.{Ok, Good, described, as-described}
 
 -- the facts after settings that are accepted, by whether they enable
@@ -147,3 +147,7 @@ pub played-as-facts : PlayedAsFacts
 unfolding playFrom Step
 played-as-facts [] = new-step
 played-as-facts (c ∷ h) = ap (after c) (played-as-facts h) ∙ step (pastOf h) (good h) c .1
+
+pub window-ends : WindowEnds
+window-ends h ms e =
+    rw e (ap (λ m. elapsedReply m ms) (played-as-facts h) ∙ elapsed-answer (pastOf h) (good h) ms (elapsed-fits ms e))
