@@ -1,5 +1,6 @@
 /* The page program in C, changed in place, to measure the product's against. */
 
+#include <endian.h>
 #include <inttypes.h>
 #include <stdbool.h>
 #include <stdint.h>
@@ -53,15 +54,16 @@ struct monitor {
 
 static uint16_t get16(const uint8_t *p)
 {
-    return (uint16_t)(p[0] | p[1] << 8);
+    uint16_t v;
+    memcpy(&v, p, sizeof v);
+    return le16toh(v);
 }
 
 static uint64_t get64(const uint8_t *p)
 {
-    uint64_t v = 0;
-    for (int i = 7; i >= 0; i--)
-        v = v << 8 | p[i];
-    return v;
+    uint64_t v;
+    memcpy(&v, p, sizeof v);
+    return le64toh(v);
 }
 
 static void put(uint8_t *p, uint64_t v, int bytes)
@@ -195,7 +197,7 @@ static void power_up(struct monitor *m)
     m->host = false;
 }
 
-/* One record; low and high are its two halves. */
+/* One record: what it leaves unnamed is tested in its two halves. */
 static int event(struct monitor *m, const uint8_t *record)
 {
     uint64_t low = get64(record), high = get64(record + 8);
