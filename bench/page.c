@@ -48,8 +48,8 @@ struct monitor {
     uint64_t load_time[COUNTERS];
     uint32_t partial;
     uint16_t timer;
-    struct window active;
-    struct window fixed;
+    struct window active_window;
+    struct window static_window;
 };
 
 static uint16_t get16(const uint8_t *p)
@@ -81,8 +81,8 @@ static void empty(struct window *w)
 static void start(struct monitor *m)
 {
     memset(m, 0, sizeof *m);
-    empty(&m->active);
-    empty(&m->fixed);
+    empty(&m->active_window);
+    empty(&m->static_window);
 }
 
 static int settings(struct monitor *m, const uint8_t *s)
@@ -109,8 +109,8 @@ static int settings(struct monitor *m, const uint8_t *s)
         m->debug_held = false;
     m->enabled = s[12];
     if (m->enabled) {
-        empty(&m->active);
-        empty(&m->fixed);
+        empty(&m->active_window);
+        empty(&m->static_window);
         m->timer = 0;
         m->partial = 0;
         m->time = 0;
@@ -120,7 +120,7 @@ static int settings(struct monitor *m, const uint8_t *s)
 
 static void completion(struct monitor *m, uint8_t opcode, uint32_t us)
 {
-    struct window *w = &m->active;
+    struct window *w = &m->active_window;
     int kind, bucket, n;
     uint32_t ms;
 
@@ -175,8 +175,8 @@ static int elapsed(struct monitor *m, uint32_t ms)
         m->partial -= INCREMENT_MS;
         if (++m->timer == m->timer_threshold) {
             m->timer = 0;
-            m->fixed = m->active;
-            empty(&m->active);
+            m->static_window = m->active_window;
+            empty(&m->active_window);
         }
     }
     return 0;
@@ -254,8 +254,8 @@ static void page(const struct monitor *m, uint8_t *p)
     memcpy(p + 6, m->thresholds, 4);
     put(p + 10, m->mode, 2);
     p[12] = m->minimum_window;
-    put_window(p + 32, &m->active);
-    put_window(p + 240, &m->fixed);
+    put_window(p + 32, &m->active_window);
+    put_window(p + 240, &m->static_window);
     put(p + 448, m->trigger, 2);
     put(p + 452, NO_STAMP, 8);
     if (m->debug_held) {

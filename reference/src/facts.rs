@@ -45,8 +45,8 @@ pub type WindowFacts = [CounterFacts; COUNTERS];
 pub struct Facts {
     pub settings: Settings,
     pub timer: u16,
-    pub active: WindowFacts,
-    pub fixed: WindowFacts,
+    pub active_window: WindowFacts,
+    pub static_window: WindowFacts,
     pub debug_log: Option<(usize, Event)>,
 }
 
@@ -59,8 +59,8 @@ pub fn facts(history: &[Call]) -> Facts {
     Facts {
         settings: in_force(history),
         timer: timer(history),
-        active: window(number),
-        fixed: window(number.and_then(|n| n.checked_sub(1))),
+        active_window: window(number),
+        static_window: window(number.and_then(|n| n.checked_sub(1))),
         debug_log: debug_log(history, &counted),
     }
 }

@@ -12,22 +12,21 @@ const KINDS: [u8; 3] = [READ, WRITE, DEALLOCATE];
 const LARGEST: u16 = 0x0FFF;
 
 pub fn groups() -> Vec<Group> {
-    let mut random = Random::new(0x4C61_7465_6E63_7943);
     vec![
         events("edges", edges()),
         events("thresholds", thresholds()),
         events("measured latencies", measured_latencies()),
-        events("elapsed", elapsed(&mut random)),
+        events("elapsed", elapsed(&mut Random::new(1))),
         events("clocks", clocks()),
         events("minimum window", minimum_window()),
         events("discard and enable", discard_and_enable()),
         events("debug log triggers", debug_triggers()),
-        events("left over", left_over(&mut random)),
-        events("unknown kinds", unknown_kinds(&mut random)),
+        events("left over", left_over(&mut Random::new(2))),
+        events("unknown kinds", unknown_kinds(&mut Random::new(3))),
         events("unnamed bytes", unnamed_bytes()),
         events("refusals", refusals()),
-        events("random mixtures", random_mixtures(&mut random)),
-        events("damaged", damaged(&mut random)),
+        events("random mixtures", random_mixtures(&mut Random::new(4))),
+        events("damaged", damaged(&mut Random::new(5))),
         event_vectors("counters at their top", counters_at_their_top()),
         event_vectors("page buffers", page_buffers()),
         event_vectors("back buffers", back_buffers()),

@@ -35,8 +35,8 @@ fn page_bytes(facts: &Facts) -> [u8; PAGE_LENGTH] {
     put(&mut page, 6, &settings.thresholds);
     put(&mut page, 10, &settings.mode.to_le_bytes());
     page[12] = settings.minimum_window;
-    put_window(&mut page, 32, &facts.active);
-    put_window(&mut page, 240, &facts.fixed);
+    put_window(&mut page, 32, &facts.active_window);
+    put_window(&mut page, 240, &facts.static_window);
     put(&mut page, 448, &settings.debug_trigger.to_le_bytes());
     put(&mut page, 452, &NO_STAMP.to_le_bytes());
     if let Some((counter, event)) = facts.debug_log {

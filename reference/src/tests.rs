@@ -165,9 +165,16 @@ fn presets_are_in_place() {
             for preset in &vector.presets {
                 let before = facts(&read(&vector.file[..16 * preset.record as usize], &vector.presets).0);
                 assert!(before.settings.enabled());
-                assert!(before.active[usize::from(preset.counter)].count > 0);
+                assert!(before.active_window[usize::from(preset.counter)].count > 0);
                 assert!(preset.value >= u32::MAX - 2);
             }
         }
     }
+}
+
+/// The files kept in the repository are the ones that this program writes.
+#[test]
+fn kept_files() {
+    assert!(vectors::write(&groups()) == include_bytes!("../../crates/vectors/stdin"));
+    assert_eq!(example().0, include_bytes!("../../samples/example.events"));
 }
