@@ -1,0 +1,92 @@
+// The text of the page: page bytes 0 to 479, 16 a line (document 01, the page program).
+ghost use mathlib.Core.Path.{_≡_};
+ghost use Prim.Native.Nat.{_+_, _*_, _<_, _≤_};
+ghost use lib.ListN.{length};
+ghost use lib.Seq.{sets};
+ghost use Rattle.events.specs.Text.{hexDigit, hexOffset, hexBytes, shownLine, textOf, asText};
+
+// Bytes of the page in a line, and of the text of a line: three digits, colon, space, 32 digits, newline.
+const ROW: usize = 16;
+
+const WIDTH: usize = 38;
+
+const LINES: usize = 30;
+
+// The text is the first `length` bytes; the others are zero.
+pub struct Text {
+    pub bytes: [u8; 1140],
+    pub length: usize,
+}
+
+fn hex_digit(d: u8) -> u8
+    requires { ⌜ d < 16 ⌝ }
+    ensures { λ r. ⌜ r ≡ hexDigit d ⌝ }
+{
+    if d < 10 { 48 + d } else { 55 + d }
+}
+
+// Stores the offset in three digits, colon and space.
+fn put_offset(out: &mut [u8], at: usize, offset: usize)
+    requires { ⌜ at + 5 ≤ length (now out) ⌝ }
+    ensures { λ _. ⌜ now (out .exit) ≡ sets (now (out .entry)) at (hexOffset offset) ⌝ }
+{
+    out[at] = hex_digit((offset / 256 % 16) as u8);
+    out[at + 1] = hex_digit((offset / 16 % 16) as u8);
+    out[at + 2] = hex_digit((offset % 16) as u8);
+    out[at + 3] = b':';
+    out[at + 4] = b' ';
+}
+
+// Stores each byte in two digits.
+fn put_bytes(out: &mut [u8], at: usize, row: &[u8])
+    requires { ⌜ at + 2 * length (now row) ≤ length (now out) ⌝ }
+    ensures { λ _. ⌜ now (out .exit) ≡ sets (now (out .entry)) at (hexBytes (now (row .entry))) ⌝ }
+{
+    let mut i = 0;
+    while i < row.len() {
+        out[at + 2 * i] = hex_digit(row[i] / 16);
+        out[at + 2 * i + 1] = hex_digit(row[i] % 16);
+        i += 1;
+    }
+}
+
+// Stores a line, unless it is of zeros alone, and says how many bytes it took.
+fn put_line(out: &mut [u8], at: usize, offset: usize, row: &[u8]) -> usize
+    requires { ⌜ (at + 38 ≤ length (now out)) × (length (now row) ≡ 16) ⌝ }
+    ensures { λ r. ⌜ r ≡ length (shownLine offset (now (row .entry))) ⌝ }
+    ensures { λ _. ⌜ now (out .exit) ≡ sets (now (out .entry)) at (shownLine offset (now (row .entry))) ⌝ }
+{
+    if endian::any_set(row) {
+        put_offset(out, at, offset);
+        put_bytes(out, at + 5, row);
+        out[at + 37] = b'\n';
+        WIDTH
+    } else {
+        0
+    }
+}
+
+fn put_lines(out: &mut [u8], page: &[u8]) -> usize
+    requires { ⌜ (1140 ≤ length (now out)) × (480 ≤ length (now page)) ⌝ }
+    ensures { λ r. ⌜ r ≡ length (textOf (now (page .entry))) ⌝ }
+    ensures { λ _. ⌜ now (out .exit) ≡ sets (now (out .entry)) 0 (textOf (now (page .entry))) ⌝ }
+{
+    let mut at = 0;
+    let mut line = 0;
+    while line < LINES {
+        let offset = ROW * line;
+        at += put_line(out, at, offset, &page[offset..offset + ROW]);
+        line += 1;
+    }
+    at
+}
+
+// The text of the page. Bytes 480 to 511 are not printed.
+pub fn page_text(page: &[u8; 512]) -> Text
+    ensures { λ r. ⌜ r ≡ asText (textOf (now (page .entry))) ⌝ }
+    ensures { λ r. ⌜ r .length ≤ 1140 ⌝ }
+{
+    let mut bytes = [0; 1140];
+    let length = put_lines(&mut bytes, page);
+    Text { bytes, length }
+}
