@@ -1,9 +1,11 @@
 -- The text of the page: page bytes 0 to 479 are printed, 16 a line.
-use Prim.Native.Nat.{ℕ, zero, suc, _+_, _-_, _*_, _/_, _%_}
+use Prim.Native.Nat.{ℕ, zero, suc, _+_, _-_, _*_, _/_, _%_, _≤_}
 use mathlib.Core.Bool.{cond}
 use mathlib.Core.List.{List, [], _∷_, _++_}
+use mathlib.Core.Path.{_≡_}
 use lib.Dec.{ltb}
 use lib.ListN.{length, take, drop, replicate}
+use lib.Seq.{sets}
 use Rattle.endian.specs.Bytes.{anySet}
 use Rattle.events.specs.declared.text.Text.{Text}
 
@@ -41,3 +43,9 @@ textOf page = lines page 30
 -- a text in a room of 30 lines of 38 bytes; what it leaves free is zero
 unfoldable pub asText : List ℕ → Text
 asText t = record { bytes = t ++ replicate (1140 - length t) 0; length = length t }
+
+-- storing t from a place on: what the bytes are after, and the number of bytes it took, at most `room`
+pub record Stored (t : List ℕ) (at room : ℕ) (before after : List ℕ) (took : ℕ) : Type 0 where
+  pub content : after ≡ sets before at t
+  pub exact : took ≡ length t
+  pub within : took ≤ room

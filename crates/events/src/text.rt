@@ -3,7 +3,7 @@ ghost use mathlib.Core.Path.{_≡_};
 ghost use Prim.Native.Nat.{_+_, _*_, _<_, _≤_};
 ghost use lib.ListN.{length};
 ghost use lib.Seq.{sets};
-ghost use Rattle.events.specs.Text.{hexDigit, hexOffset, hexBytes, shownLine, textOf, asText};
+ghost use Rattle.events.specs.Text.{hexDigit, hexOffset, hexBytes, shownLine, textOf, asText, Stored};
 
 // Bytes of the page in a line, and of the text of a line: three digits, colon, space, 32 digits, newline.
 const ROW: usize = 16;
@@ -53,8 +53,7 @@ fn put_bytes(out: &mut [u8], at: usize, row: &[u8])
 // Stores a line, unless it is of zeros alone, and says how many bytes it took.
 fn put_line(out: &mut [u8], at: usize, offset: usize, row: &[u8]) -> usize
     requires { ⌜ (at + 38 ≤ length (now out)) × (length (now row) ≡ 16) ⌝ }
-    ensures { λ r. ⌜ r ≡ length (shownLine offset (now (row .entry))) ⌝ }
-    ensures { λ _. ⌜ now (out .exit) ≡ sets (now (out .entry)) at (shownLine offset (now (row .entry))) ⌝ }
+    ensures { λ r. ⌜ Stored (shownLine offset (now (row .entry))) at 38 (now (out .entry)) (now (out .exit)) r ⌝ }
 {
     if endian::any_set(row) {
         put_offset(out, at, offset);
@@ -68,8 +67,7 @@ fn put_line(out: &mut [u8], at: usize, offset: usize, row: &[u8]) -> usize
 
 fn put_lines(out: &mut [u8], page: &[u8]) -> usize
     requires { ⌜ (1140 ≤ length (now out)) × (480 ≤ length (now page)) ⌝ }
-    ensures { λ r. ⌜ r ≡ length (textOf (now (page .entry))) ⌝ }
-    ensures { λ _. ⌜ now (out .exit) ≡ sets (now (out .entry)) 0 (textOf (now (page .entry))) ⌝ }
+    ensures { λ r. ⌜ Stored (textOf (now (page .entry))) 0 1140 (now (out .entry)) (now (out .exit)) r ⌝ }
 {
     let mut at = 0;
     let mut line = 0;

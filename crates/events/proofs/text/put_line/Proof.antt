@@ -1,11 +1,9 @@
+-- `put_line`: the offset, the bytes and the newline are one run; a line of zeros alone stores nothing.
+use mathlib.Core.Path.{sym, _∙_}
+use Rattle.events.proofs.text.Laws.{line-stored, line-skipped, same-room}
 use borrow.Author.Needs.{needs}
 use Rattle.events.proofs.text.put_line.Statement.{statement}
 use Rattle.events.proofs.text.put_line.Tie as tie
-use Rattle.events.proofs.text.put_line.Reads as reads
-use Rattle.events.proofs.text.put_line.Lts as lts
-use Rattle.endian.proofs.any_set.Reads as any-set-reads
-use Rattle.events.proofs.text.put_bytes.Reads as put-bytes-reads
-use Rattle.events.proofs.text.put_offset.Reads as put-offset-reads
 
 any-set-requires : tie.Need-any-set-requires
 any-set-requires c κs = search needs
@@ -25,14 +23,19 @@ add-out c = search needs
 slice-write-out : tie.Need-slice-write-out
 slice-write-out c = search needs
 
-same-length : tie.Need-same-length
-same-length c = ?
-
 returns : tie.Need-returns
-returns c = ?
+returns c =
+    let c₁ = c .before .before .before .before .before .before in
+    let tested = c₁ .before .before in
+    let start = tested .before .before .before .before in
+    let set = sym (tested .before .any-set .ensures) ∙ tested .if1 .taken in
+    line-stored _ _ _ _ _ _ (start .pre .1) set (c₁ .put-offset .ensures) (c .before .before .put-bytes .ensures)
+
+same-length : tie.Need-same-length
+same-length c = same-room (returns c)
 
 returns-2 : tie.Need-returns-2
-returns-2 c = ?
+returns-2 c = line-skipped _ _ _ _ (sym (c .before .any-set .ensures) ∙ c .if1 .left)
 
 pub put-line-spec : {M : Type 1} → statement M
 put-line-spec =

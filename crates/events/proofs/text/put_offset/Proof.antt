@@ -2,12 +2,9 @@
 use native.Mathlib.Omega.{arith}
 use borrow.Author.Needs.{needs}
 use lib.ListN.{length-set}
-use Rattle.events.specs.Text.{hexOffset}
+use Rattle.events.proofs.text.Laws.{offset-run}
 use Rattle.events.proofs.text.put_offset.Statement.{statement}
 use Rattle.events.proofs.text.put_offset.Tie as tie
-use Rattle.events.proofs.text.put_offset.Reads as reads
-use Rattle.events.proofs.text.put_offset.Lts as lts
-use Rattle.events.proofs.text.hex_digit.Reads as hex-digit-reads
 
 cast-hex-digit : tie.Need-cast-hex-digit
 cast-hex-digit c = search needs
@@ -58,7 +55,9 @@ same-length : tie.Need-same-length
 same-length c = search needs
 
 returns : tie.Need-returns
-returns c = ?
+returns c =
+    let start = c .before .before .before .before in
+    offset-run (start .args .out .now) (start .args .at) (start .args .offset) _ _ _ (c .before .before .hex-digit .ensures) (c .before .hex-digit2 .ensures) (c .hex-digit3 .ensures)
 
 pub put-offset-spec : {M : Type 1} → statement M
 put-offset-spec =
