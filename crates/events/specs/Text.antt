@@ -31,10 +31,14 @@ line offset row = hexOffset offset ++ hexBytes row ++ (10 ∷ [])
 unfoldable pub shownLine : ℕ → List ℕ → List ℕ
 shownLine offset row = cond (anySet row) (line offset row) []
 
--- the first n lines, 16 bytes a line
+-- 16 bytes a line
+unfoldable pub lineAt : List ℕ → ℕ → List ℕ
+lineAt page offset = shownLine offset (take 16 (drop offset page))
+
+-- the first n lines
 unfoldable pub lines : List ℕ → ℕ → List ℕ
 lines page zero = []
-lines page (suc n) = lines page n ++ shownLine (16 * n) (take 16 (drop (16 * n) page))
+lines page (suc n) = lines page n ++ lineAt page (16 * n)
 
 -- bytes 0 to 479: lines 0 to 29
 unfoldable pub textOf : List ℕ → List ℕ

@@ -3,7 +3,7 @@ ghost use mathlib.Core.Path.{_≡_};
 ghost use Prim.Native.Nat.{_+_, _*_, _<_, _≤_};
 ghost use lib.ListN.{length};
 ghost use lib.Seq.{sets};
-ghost use Rattle.events.specs.Text.{hexDigit, hexOffset, hexBytes, shownLine, textOf, asText, Stored};
+ghost use Rattle.events.specs.Text.{hexDigit, hexOffset, hexBytes, lineAt, textOf, asText, Stored};
 
 // Bytes of the page in a line, and of the text of a line: three digits, colon, space, 32 digits, newline.
 const ROW: usize = 16;
@@ -50,11 +50,12 @@ fn put_bytes(out: &mut [u8], at: usize, row: &[u8])
     }
 }
 
-// Stores a line, unless it is of zeros alone, and says how many bytes it took.
-fn put_line(out: &mut [u8], at: usize, offset: usize, row: &[u8]) -> usize
-    requires { ⌜ (at + 38 ≤ length (now out)) × (length (now row) ≡ 16) ⌝ }
-    ensures { λ r. ⌜ Stored (shownLine offset (now (row .entry))) at 38 (now (out .entry)) (now (out .exit)) r ⌝ }
+// Stores the line at an offset, unless it is of zeros alone, and says how many bytes it took.
+fn put_line(out: &mut [u8], at: usize, page: &[u8], offset: usize) -> usize
+    requires { ⌜ (at + 38 ≤ length (now out)) × (offset + 16 ≤ length (now page)) ⌝ }
+    ensures { λ r. ⌜ Stored (lineAt (now (page .entry)) offset) at 38 (now (out .entry)) (now (out .exit)) r ⌝ }
 {
+    let row = &page[offset..offset + ROW];
     if endian::any_set(row) {
         put_offset(out, at, offset);
         put_bytes(out, at + 5, row);
@@ -72,8 +73,7 @@ fn put_lines(out: &mut [u8], page: &[u8]) -> usize
     let mut at = 0;
     let mut line = 0;
     while line < LINES {
-        let offset = ROW * line;
-        at += put_line(out, at, offset, &page[offset..offset + ROW]);
+        at += put_line(out, at, page, ROW * line);
         line += 1;
     }
     at

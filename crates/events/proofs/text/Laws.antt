@@ -9,7 +9,7 @@ use lib.ListN.{length, set, take, drop, getD, replicate, length-append, length-t
 use lib.Seq.{sets, sets-eq, length-sets, drop-cons}
 use Rattle.endian.specs.Bytes.{anySet}
 use Rattle.events.specs.declared.text.Text.{Text}
-use Rattle.events.specs.Text.{hexDigit, hexOffset, hexBytes, line, shownLine, lines, asText, Stored}
+use Rattle.events.specs.Text.{hexDigit, hexOffset, hexBytes, line, shownLine, lineAt, lines, asText, Stored}
 
 -- one run after another is one run
 sets-append : (l : List ℕ) (i : ℕ) (a b : List ℕ) → sets l i (a ++ b) ≡ sets (sets l i a) (i + length a) b
@@ -84,27 +84,29 @@ pub line-skipped : (offset : ℕ) (row s : List ℕ) (at : ℕ) → anySet row �
 unfolding shownLine
 line-skipped offset row s at h = record { content = rw h; exact = rw h; within = omega arith }
 
--- the bytes of line n, as the code cuts them out of the page
-pub row-eq : (page : List ℕ) (n : ℕ) → take (16 * n + 16 - 16 * n) (drop (16 * n) page) ≡ take 16 (drop (16 * n) page)
-row-eq page n =
-    let e : 16 * n + 16 - 16 * n ≡ 16 = omega arith in
+-- the bytes of a line, as the code cuts them out of the page
+row-eq : (page : List ℕ) (offset : ℕ) → take (offset + 16 - offset) (drop offset page) ≡ take 16 (drop offset page)
+row-eq page offset =
+    let e : offset + 16 - offset ≡ 16 = omega arith in
     rw e
 
-pub row-length : (page : List ℕ) (n : ℕ) → n < 30 → 480 ≤ length page → length (take (16 * n + 16 - 16 * n) (drop (16 * n) page)) ≡ 16
-row-length page n h p = rw row-eq (simp (length-take, length-drop) (omega arith))
+pub row-length : (page : List ℕ) (offset : ℕ) → offset + 16 ≤ length page → length (take (offset + 16 - offset) (drop offset page)) ≡ 16
+row-length page offset h = rw row-eq (simp (length-take, length-drop) (omega arith))
+
+pub line-at : (page before after : List ℕ) (offset at took : ℕ) → Stored (shownLine offset (take (offset + 16 - offset) (drop offset page))) at 38 before after took
+    → Stored (lineAt page offset) at 38 before after took
+unfolding lineAt
+line-at page before after offset at took s = rw (row-eq page offset) at s
 
 -- one line more
-pub lines-step : (page row out₀ out next : List ℕ) (n at r : ℕ) → row ≡ take 16 (drop (16 * n) page) → Stored (lines page n) 0 (38 * n) out₀ out at
-    → Stored (shownLine (16 * n) row) at 38 out next r → Stored (lines page (n + 1)) 0 (38 * (n + 1)) out₀ next (at + r)
+pub lines-step : (page out₀ out next : List ℕ) (n at r : ℕ) → Stored (lines page n) 0 (38 * n) out₀ out at → Stored (lineAt page (16 * n)) at 38 out next r
+    → Stored (lines page (n + 1)) 0 (38 * (n + 1)) out₀ next (at + r)
 unfolding lines
-lines-step page row out₀ out next n at r p s t =
-    let more : List ℕ = shownLine (16 * n) (take 16 (drop (16 * n) page)) in
-    let exact : r ≡ length more = rw p at (t .exact) in
-    let content : next ≡ sets out at more = rw p at (t .content) in
+lines-step page out₀ out next n at r s t =
     let q : at ≡ 0 + length (lines page n) = omega (arith, s .exact) in
     record {
-      content = rw add-one (run-step out₀ out next (lines page n) more 0 at q (s .content) content);
-      exact = rw (add-one, length-append) (omega (arith, s .exact));
+      content = rw add-one (run-step out₀ out next (lines page n) (lineAt page (16 * n)) 0 at q (s .content) (t .content));
+      exact = rw (add-one, length-append) (omega (arith, s .exact, t .exact));
       within = omega (arith, s .within, t .within);
     }
 

@@ -5,7 +5,7 @@ use native.Mathlib.Omega.{arith}
 use borrow.Author.Needs.{needs}
 use lib.ListN.{length}
 use Rattle.events.specs.Text.{lines, textOf, Stored}
-use Rattle.events.proofs.text.Laws.{row-eq, row-length, lines-step}
+use Rattle.events.proofs.text.Laws.{lines-step}
 use Rattle.events.proofs.text.put_lines.Statement.{statement}
 use Rattle.events.proofs.text.put_lines.Tie as tie
 
@@ -20,25 +20,11 @@ loop-holds : tie.Need-loop-holds Inv-loop μ-loop
 unfolding lines
 loop-holds c = search needs
 
-mul-offset : tie.Need-mul-offset Inv-loop μ-loop
-mul-offset c = search needs
-
-add-put-line : tie.Need-add-put-line Inv-loop μ-loop
-add-put-line c = search needs
-
-sub-put-line : tie.Need-sub-put-line Inv-loop μ-loop
-sub-put-line c = search needs
-
-part-put-line-start : tie.Need-part-put-line-start Inv-loop μ-loop
-part-put-line-start c = search needs
-
-part-put-line-end : tie.Need-part-put-line-end Inv-loop μ-loop
-part-put-line-end c = search needs
+mul-put-line : tie.Need-mul-put-line Inv-loop μ-loop
+mul-put-line c = search needs
 
 put-line-requires : tie.Need-put-line-requires Inv-loop μ-loop
-put-line-requires c κs =
-    let start = c .before .before .before .before .before .before in
-    (search needs, row-length (start .args .page .now) (c .before .before .before .loop .line) (search needs) (start .pre .1))
+put-line-requires c κs = search needs
 
 add-at : tie.Need-add-at Inv-loop μ-loop
 add-at c = search needs
@@ -51,9 +37,7 @@ loop-less c = search needs
 
 loop-again : tie.Need-loop-again Inv-loop μ-loop
 loop-again c =
-    let at-loop = c .before .before .before .before .before .before in
-    let start = at-loop .before .before .before in
-    (search needs, search needs, lines-step _ _ _ _ _ _ _ _ (row-eq (start .args .page .now) (at-loop .loop .line)) (at-loop .loop .inv .2) (c .before .before .put-line .ensures))
+    (search needs, search needs, lines-step _ _ _ _ _ _ _ (c .before .before .before .before .before .loop .inv .2) (c .before .before .put-line .ensures))
 
 same-length : tie.Need-same-length Inv-loop μ-loop
 same-length c = search needs
@@ -71,11 +55,7 @@ put-lines-spec =
     Inv-loop
     μ-loop
     loop-holds
-    mul-offset
-    add-put-line
-    sub-put-line
-    part-put-line-start
-    part-put-line-end
+    mul-put-line
     put-line-requires
     add-at
     add-line
