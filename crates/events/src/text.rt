@@ -5,11 +5,13 @@ ghost use lib.ListN.{length};
 ghost use lib.Seq.{sets};
 ghost use Rattle.events.specs.Text.{hexDigit, hexOffset, hexBytes, lineAt, textOf, asText, Stored};
 
-// Bytes of the page in a line, and of the text of a line: three digits, colon, space, 32 digits, newline.
+// Bytes of the page in a line.
 const ROW: usize = 16;
 
+// Bytes of a line's text: three digits, colon, space, 32 digits, newline.
 const WIDTH: usize = 38;
 
+// Bytes 480 to 511 are not printed.
 const LINES: usize = 30;
 
 // The text is the first `length` bytes; the others are zero.
@@ -18,6 +20,7 @@ pub struct Text {
     pub length: usize,
 }
 
+// A hex digit, a capital from ten on, as its ASCII byte.
 fn hex_digit(d: u8) -> u8
     requires { ⌜ d < 16 ⌝ }
     ensures { λ r. ⌜ r ≡ hexDigit d ⌝ }
@@ -66,6 +69,7 @@ fn put_line(out: &mut [u8], at: usize, page: &[u8], offset: usize) -> usize
     }
 }
 
+// Stores the lines one after the other, and says how many bytes they took.
 fn put_lines(out: &mut [u8], page: &[u8]) -> usize
     requires { ⌜ (1140 ≤ length (now out)) × (480 ≤ length (now page)) ⌝ }
     ensures { λ r. ⌜ Stored (textOf (now (page .entry))) 0 1140 (now (out .entry)) (now (out .exit)) r ⌝ }
@@ -79,10 +83,10 @@ fn put_lines(out: &mut [u8], page: &[u8]) -> usize
     at
 }
 
-// The text of the page. Bytes 480 to 511 are not printed.
+// The text of the page.
 pub fn page_text(page: &[u8; 512]) -> Text
     ensures { λ r. ⌜ r ≡ asText (textOf (now (page .entry))) ⌝ }
-    ensures { λ r. ⌜ r .length ≤ 1140 ⌝ }
+    ensures { λ r. ⌜ r .length ≤ length (r .bytes) ⌝ }
 {
     let mut bytes = [0; 1140];
     let length = put_lines(&mut bytes, page);
