@@ -1,4 +1,4 @@
--- Laws of runs of stores, and of the lines of the text.
+-- Laws of the lines of the text.
 use mathlib.Core.Path.{_≡_, refl, sym, _∙_, ap}
 use Prim.Native.Nat.{ℕ, zero, suc, _+_, _*_, _-_, _<_, _≤_, _/_, _%_}
 use mathlib.Core.Bool.{true, false}
@@ -8,20 +8,9 @@ use native.Mathlib.Numerals.{add-one}
 use lib.ListN.{length, set, take, drop, getD, replicate, length-append, length-take, length-drop, length-replicate, drop-of-length-le}
 use lib.Seq.{sets, sets-eq, length-sets, drop-cons}
 use Rattle.endian.specs.Bytes.{anySet}
+use Rattle.endian.proofs.Runs.{run-more}
 use Rattle.events.specs.declared.text.Text.{Text}
 use Rattle.events.specs.Text.{hexDigit, hexOffset, hexBytes, line, shownLine, lineAt, lines, asText, Stored}
-
--- one run after another is one run
-sets-append : (l : List ℕ) (i : ℕ) (a b : List ℕ) → sets l i (a ++ b) ≡ sets (sets l i a) (i + length a) b
-sets-append l i [] b =
-    let p : i + 0 ≡ i = omega arith in
-    rw p
-sets-append l i (x ∷ a) b =
-    let q : i + suc (length a) ≡ suc i + length a = omega arith in
-    rw q (sets-append (set l i x) (suc i) a b)
-
-run-step : (l cur next a b : List ℕ) (base at : ℕ) → at ≡ base + length a → cur ≡ sets l base a → next ≡ sets cur at b → next ≡ sets l base (a ++ b)
-run-step l cur next a b base at p e f = f ∙ rw (e, p) (sym (sets-append l base a b))
 
 -- the offset's five stores
 pub offset-run : (s : List ℕ) (at offset a b c : ℕ) → a ≡ hexDigit (offset / 256 % 16) → b ≡ hexDigit (offset / 16 % 16) → c ≡ hexDigit (offset % 16)
@@ -73,9 +62,9 @@ unfolding shownLine line
 line-stored offset row s s₁ s₂ at n h e₁ e₂ =
     let p₁ : at + 5 ≡ at + length (hexOffset offset) = rw (length-offset offset) in
     let p₂ : at + 37 ≡ at + length (hexOffset offset ++ hexBytes row) = simp (length-append, length-offset, length-bytes, n) in
-    let e : s₂ ≡ sets s at (hexOffset offset ++ hexBytes row) = run-step s s₁ s₂ (hexOffset offset) (hexBytes row) at (at + 5) p₁ e₁ e₂ in
+    let e : s₂ ≡ sets s at (hexOffset offset ++ hexBytes row) = run-more s s₁ s₂ (hexOffset offset) (hexBytes row) at (at + 5) p₁ e₁ e₂ in
     record {
-      content = rw h (run-step s s₂ (set s₂ (at + 37) 10) (hexOffset offset ++ hexBytes row) (10 ∷ []) at (at + 37) p₂ e refl);
+      content = rw h (run-more s s₂ (set s₂ (at + 37) 10) (hexOffset offset ++ hexBytes row) (10 ∷ []) at (at + 37) p₂ e refl);
       exact = rw h (simp (length-append, length-offset, length-bytes, n));
       within = omega arith;
     }
@@ -105,7 +94,7 @@ unfolding lines
 lines-step page out₀ out next n at r s t =
     let q : at ≡ 0 + length (lines page n) = omega (arith, s .exact) in
     record {
-      content = rw add-one (run-step out₀ out next (lines page n) (lineAt page (16 * n)) 0 at q (s .content) (t .content));
+      content = rw add-one (run-more out₀ out next (lines page n) (lineAt page (16 * n)) 0 at q (s .content) (t .content));
       exact = rw (add-one, length-append) (omega (arith, s .exact, t .exact));
       within = omega (arith, s .within, t .within);
     }
