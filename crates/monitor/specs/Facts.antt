@@ -14,7 +14,7 @@ use Rattle.monitor.specs.declared.commands.Completion.{Completion}
 use Rattle.monitor.specs.declared.record.Monitor.{Monitor}
 use Rattle.monitor.specs.Commands.{counterOf, millisecondsOf}
 use Rattle.monitor.specs.Counting.{bit, debugLog}
-use Rattle.monitor.specs.History.{Effect, Past, settingsIn, completionIn, elapsedIn, clockIn, found, latest, since}
+use Rattle.monitor.specs.History.{Effect, Past, ClockSetting, settingsIn, completionIn, elapsedIn, clockIn, found, latest, since}
 use Rattle.monitor.specs.Settings.{decoded, discard}
 
 -- In force: the settings last accepted before a place, else all zero.
@@ -40,15 +40,15 @@ time past = sum (since never elapsed past)
 -- Clock at a place: time since the latest accepted clock call, power-up or the start before it, plus the value if that
 -- was a clock call, held at 281,474,976,710,655; host-set if that was a clock call.
 abbrev pub setsClock : Effect → Bool
-setsClock e = found false (λ value. true) (clockIn e)
+setsClock e = found false (λ set. true) (clockIn e)
 
 unfoldable pub clockAt : Past → ℕ
 clockAt past =
-    min (found 0 (λ set. found 0 (λ value. value) set) (latest clockIn past) + sum (since setsClock elapsed past))
+    min (found 0 (λ (set : ClockSetting). set .value) (latest clockIn past) + sum (since setsClock elapsed past))
     281474976710655
 
-unfoldable pub hostSet : Past → Bool
-hostSet past = found false (λ set. found false (λ value. true) set) (latest clockIn past)
+unfoldable pub hostAt : Past → Bool
+hostAt past = found false (λ (set : ClockSetting). set .host) (latest clockIn past)
 
 -- settings with enable 1, and their timer threshold
 abbrev pub enables : Effect → Bool
@@ -136,7 +136,7 @@ abbrev pub latencyOf : Option Counted → ℕ
 latencyOf load = found 0 (λ x. millisecondsOf (x .command)) load
 
 abbrev pub unitsOf : Option Counted → Bool
-unitsOf load = found false (λ x. hostSet (x .before)) load
+unitsOf load = found false (λ x. hostAt (x .before)) load
 
 -- f 0, f 1, .. of the twelve counters
 unfoldable pub from : {A : Type 0} → ℕ → ℕ → (ℕ → A) → List A
@@ -147,8 +147,8 @@ abbrev pub each : {A : Type 0} → (ℕ → A) → List A
 each f = from 0 12 f
 
 -- a window, from the completions counted for each counter
-abbrev pub windowOf : (ℕ → List Counted) → Window
-windowOf completions =
+abbrev pub windowFrom : (ℕ → List Counted) → Window
+windowFrom completions =
     record {
       counters = each (λ n. countOf (completions n));
       stamps = each (λ n. stampOf (lastLoad (completions n)));
@@ -173,7 +173,7 @@ first [] = none
 first (x ∷ earlier) = orFirst x (first earlier)
 
 abbrev pub logOf : Counted → DebugLog
-logOf x = debugLog (x .counter) (clockAt (x .before)) (millisecondsOf (x .command)) (hostSet (x .before))
+logOf x = debugLog (x .counter) (clockAt (x .before)) (millisecondsOf (x .command)) (hostAt (x .before))
 
 unfoldable pub debugAt : Past → DebugLog
 debugAt past = found noDebugLog logOf (first (those triggered (since discards countedAt past)))
@@ -188,13 +188,13 @@ recordOf past =
     record {
       settings = inForce past;
       timer = timerAt past;
-      host = hostSet past;
+      host = hostAt past;
       partial = enabledTime past % 300000;
       clock = clockAt past;
       loaded = each (λ n. loadedOf (lastLoad (active past n)));
       debug = debugAt past;
-      «static_window» = windowOf (static past);
-      «active_window» = windowOf (active past);
+      «static_window» = windowFrom (static past);
+      «active_window» = windowFrom (active past);
     }
 
 -- what the page shows of the facts
@@ -203,7 +203,7 @@ factsOf past =
     record {
       settings = inForce past;
       timer = timerAt past;
-      «active_window» = windowOf (active past);
-      «static_window» = windowOf (static past);
+      «active_window» = windowFrom (active past);
+      «static_window» = windowFrom (static past);
       debug = debugAt past;
     }

@@ -1,5 +1,5 @@
 -- Histories of calls, and the record that a history leaves.
-use mathlib.Core.Bool.{Bool, cond}
+use mathlib.Core.Bool.{Bool, true, false, cond}
 use mathlib.Core.List.{List, [], _∷_, map}
 use mathlib.Core.Option.{Option, none, some}
 use Prim.Native.Nat.{ℕ, _<_}
@@ -102,7 +102,12 @@ Past = List Effect
 abbrev pub pastOf : History → Past
 pastOf h = map effectOf h
 
--- what each effect brings: settings, a completion, elapsed time; and the clock: set to a value, or by power-up to none
+-- the clock is set to a value, by the host or by power-up
+pub record ClockSetting : Type 0 where
+  pub value : ℕ
+  pub host : Bool
+
+-- what each effect brings
 abbrev pub settingsIn : Effect → Option (List ℕ)
 settingsIn (configured s) = some s
 settingsIn (completed c) = none
@@ -127,12 +132,12 @@ elapsedIn (clockSet value) = none
 elapsedIn poweredUp = none
 elapsedIn nothing = none
 
-abbrev pub clockIn : Effect → Option (Option ℕ)
+abbrev pub clockIn : Effect → Option ClockSetting
 clockIn (configured s) = none
 clockIn (completed c) = none
 clockIn (passed ms) = none
-clockIn (clockSet value) = some (some value)
-clockIn poweredUp = some none
+clockIn (clockSet value) = some (record { value = value; host = true })
+clockIn poweredUp = some (record { value = 0; host = false })
 clockIn nothing = none
 
 -- f of what is there, else a default

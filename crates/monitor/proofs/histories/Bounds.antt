@@ -14,7 +14,7 @@ use Rattle.logpage.specs.declared.DebugLog.{DebugLog}
 use Rattle.logpage.specs.declared.Settings.{Settings}
 use Rattle.monitor.specs.declared.commands.Completion.{Completion}
 use Rattle.monitor.specs.Commands.{counterOf, millisecondsOf}
-use Rattle.monitor.specs.Facts.{inForce, sum, clockAt, enables, enabledThreshold, threshold, enabledTime, whileEnabled, windowAt, timerAt, Counted, countedAt, those, countOf, lastLoad, stampOf, latencyOf, triggered, discards, orFirst, first, logOf, debugAt, active, static, from, windowOf, factsOf}
+use Rattle.monitor.specs.Facts.{inForce, sum, clockAt, enables, enabledThreshold, threshold, enabledTime, whileEnabled, windowAt, timerAt, Counted, countedAt, those, countOf, lastLoad, stampOf, latencyOf, triggered, discards, orFirst, first, logOf, debugAt, active, static, from, windowFrom, factsOf}
 use Rattle.monitor.specs.History.{Call, settings, completion, elapsed, clock, powerUp, page, settingsBack, History, Bytes, BytesIn, OfBytes, Effect, configured, completed, passed, clockSet, poweredUp, nothing, ifAccepted, asked, refusalOf, effectOf, Past, pastOf, settingsIn, completionIn, found, orElse, latest, andThen, since}
 use Rattle.monitor.specs.Refusals.{settingsRefusal, elapsedRefusal, clockRefusal, pageRefusal, settingsBackRefusal}
 use Rattle.monitor.specs.Settings.{decoded}
@@ -224,7 +224,7 @@ each-below top f z h i zero k = z
 each-below top f z h i (suc n) zero = h i
 each-below top f z h i (suc n) (suc k) = each-below top f z h (suc i) n k
 
-window-fits : (completions : ℕ → List Counted) → FitsWindow (windowOf completions)
+window-fits : (completions : ℕ → List Counted) → FitsWindow (windowFrom completions)
 window-fits completions =
     record {
       twelve-counters = length-from 0 12 _;

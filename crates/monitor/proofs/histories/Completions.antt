@@ -16,7 +16,7 @@ use Rattle.monitor.specs.declared.commands.Completion.{Completion}
 use Rattle.monitor.specs.declared.record.Monitor.{Monitor}
 use Rattle.monitor.specs.Commands.{counterOf, millisecondsOf}
 use Rattle.monitor.specs.Counting.{bit, onceMore, loads, countedIn, triggers, debugLog}
-use Rattle.monitor.specs.Facts.{inForce, time, clockAt, hostSet, enables, threshold, enabledTime, windowAt, timerAt, Counted, countedAt, those, activeFor, staticFor, active, static, countOf, loadsAfter, orLoad, lastLoad, stampOf, latencyOf, unitsOf, loadedOf, from, each, windowOf, discards, triggered, orFirst, first, logOf, debugAt, recordOf}
+use Rattle.monitor.specs.Facts.{inForce, time, clockAt, hostAt, enables, threshold, enabledTime, windowAt, timerAt, Counted, countedAt, those, activeFor, staticFor, active, static, countOf, loadsAfter, orLoad, lastLoad, stampOf, latencyOf, unitsOf, loadedOf, from, each, windowFrom, discards, triggered, orFirst, first, logOf, debugAt, recordOf}
 use Rattle.monitor.specs.History.{completed, Past, found, andThen, latest, since}
 use Rattle.monitor.specs.Record.{afterCompletion}
 use Rattle.monitor.specs.Timer.{inWindow}
@@ -126,7 +126,7 @@ module _ (past : Past) (c : Completion) (n : ℕ) where
   left-out k = rw (ne-eqb (windowAt past + 1) (windowAt past) (λ e. omega arith))
 
   pub logs :
-      cond (triggers (bit (inForce past .trigger) n) (debugAt past .stamp)) (debugLog n (clockAt past) (millisecondsOf c) (hostSet past)) (debugAt past) ≡
+      cond (triggers (bit (inForce past .trigger) n) (debugAt past .stamp)) (debugLog n (clockAt past) (millisecondsOf c) (hostAt past)) (debugAt past) ≡
       found noDebugLog logOf (first (those triggered (here-counted ∷ since discards countedAt past)))
   unfolding those first debugAt triggers noDebugLog
   logs = by (bit (inForce past .trigger) n) (those triggered (since discards countedAt past))
@@ -155,13 +155,13 @@ found-at past c o = found none (λ n. some (record { counter = n; command = c; b
 
 abbrev after-it : Past → Completion → Option ℕ → Monitor
 after-it past c o =
-    described (inForce past) (timerAt past) (hostSet past) (enabledTime past % 300000) (clockAt past)
+    described (inForce past) (timerAt past) (hostAt past) (enabledTime past % 300000) (clockAt past)
     (found noDebugLog logOf (first (those triggered (andThen (found-at past c o) (since discards countedAt past)))))
     (windowAt past)
     (andThen (found-at past c o) (since enables countedAt past))
 
 facts-after : (past : Past) (c : Completion) → recordOf (completed c ∷ past) ≡ after-it past c (counterOf (inForce past) c)
-unfolding recordOf inForce clockAt hostSet timerAt windowAt enabledTime threshold active static debugAt since latest
+unfolding recordOf inForce clockAt hostAt timerAt windowAt enabledTime threshold active static debugAt since latest
 facts-after past c = refl
 
 not-counted-step : (past : Past) (c : Completion) → counterOf (inForce past) c ≡ none → afterCompletion (recordOf past) c ≡ after-it past c none
@@ -179,18 +179,18 @@ counted-step past g c n e =
     (λ i. record {
       settings = inForce past;
       timer = timerAt past;
-      host = hostSet past;
+      host = hostAt past;
       partial = enabledTime past % 300000;
       clock = clockAt past;
       loaded = written past c n 0 into _ refl i;
       debug = logs past c n i;
-      «static_window» = windowOf (λ k. sym (left-out past c n k) i);
+      «static_window» = windowFrom (λ k. sym (left-out past c n k) i);
       «active_window» =
           record {
             counters = counted-more past c n few i;
             stamps = written past c n unset (λ x. clockAt (x .before)) _ refl i;
             latencies = written past c n 0 (λ x. millisecondsOf (x .command)) _ refl i;
-            units = written past c n false (λ x. hostSet (x .before)) _ refl i;
+            units = written past c n false (λ x. hostAt (x .before)) _ refl i;
           };
     })
 

@@ -12,7 +12,7 @@ use borrow.Author.Tests.{eq-eqb, ne-eqb, lt-ltb, le-ltb, le-leb, lt-leb, leb-tru
 use Rattle.logpage.specs.Fields.{emptyWindow}
 use Rattle.monitor.specs.declared.record.Monitor.{Monitor}
 use Rattle.monitor.specs.declared.timer.Tick.{Tick}
-use Rattle.monitor.specs.Facts.{inForce, sum, clockAt, hostSet, enables, threshold, enabledTime, windowAt, timerAt, Counted, countedAt, those, activeFor, active, static, countOf, lastLoad, stampOf, latencyOf, unitsOf, loadedOf, each, windowOf, debugAt, recordOf}
+use Rattle.monitor.specs.Facts.{inForce, sum, clockAt, hostAt, enables, threshold, enabledTime, windowAt, timerAt, Counted, countedAt, those, activeFor, active, static, countOf, lastLoad, stampOf, latencyOf, unitsOf, loadedOf, each, windowFrom, debugAt, recordOf}
 use Rattle.monitor.specs.History.{passed, Past, latest, since}
 use Rattle.monitor.specs.Answers.{ended}
 use Rattle.monitor.specs.Record.{noLoads, afterElapsed, elapsedReply}
@@ -25,7 +25,7 @@ use Rattle.monitor.proofs.histories.Windows.{none-taken, none-partial, 
 -- the facts after time that brought the time while enabled to t
 abbrev after-time : Past → ℕ → ℕ → Monitor
 after-time past ms t =
-    described (inForce past) (t / 300000 - t / span past * threshold past) (hostSet past) (t % 300000) (grown (clockAt past) ms)
+    described (inForce past) (t / 300000 - t / span past * threshold past) (hostAt past) (t % 300000) (grown (clockAt past) ms)
     (debugAt past) (t / span past) (since enables countedAt past)
 
 time-after :
@@ -41,9 +41,9 @@ unfolding clockAt latest since sum
 clock-after past ms = omega arith
 
 facts-after : (past : Past) (ms : ℕ) → recordOf (passed ms ∷ past) ≡ after-time past ms (enabledTime (passed ms ∷ past))
-unfolding recordOf inForce hostSet timerAt windowAt threshold active static debugAt latest since
+unfolding recordOf inForce hostAt timerAt windowAt threshold active static debugAt latest since
 facts-after past ms =
-    ap (λ n. described (inForce past) (timerAt (passed ms ∷ past)) (hostSet past) (enabledTime (passed ms ∷ past) % 300000) n (debugAt past) (windowAt (passed ms ∷ past)) (since enables countedAt past))
+    ap (λ n. described (inForce past) (timerAt (passed ms ∷ past)) (hostAt past) (enabledTime (passed ms ∷ past) % 300000) n (debugAt past) (windowAt (passed ms ∷ past)) (since enables countedAt past))
     (clock-after past ms)
 
 -- what a window's end makes of what is asked of each counter's completions
@@ -63,7 +63,7 @@ handed-on past g k =
     those-same (activeFor past k) (Fine past) (preceding (suc (windowAt past)) k) (λ x h. rw (add-one, eqb·suc-suc (windowAt (x .before)) (windowAt past)))
     (since enables countedAt past) (fine past g)
 
-empty-handed : (past : Past) → Good past → emptyWindow ≡ windowOf (λ k. those (within (suc (windowAt past)) k) (since enables countedAt past))
+empty-handed : (past : Past) → Good past → emptyWindow ≡ windowFrom (λ k. those (within (suc (windowAt past)) k) (since enables countedAt past))
 unfolding emptyWindow countOf lastLoad
 empty-handed past g =
     λ i. record {
@@ -166,12 +166,12 @@ module _ (past : Past) (g : Good past) (ms : ℕ) (fits : ms ≤ 300000) where
           (λ i. record {
             settings = inForce past;
             timer = 0;
-            host = hostSet past;
+            host = hostAt past;
             partial = t % 300000 + ms - 300000;
             clock = grown (clockAt past) ms;
             loaded = no-loads past g i;
             debug = debugAt past;
-            «static_window» = windowOf (λ k. handed-on past g k i);
+            «static_window» = windowFrom (λ k. handed-on past g k i);
             «active_window» = empty-handed past g i;
           }))
 

@@ -13,7 +13,7 @@ use Rattle.logpage.specs.declared.DebugLog.{DebugLog}
 use Rattle.logpage.specs.declared.Settings.{Settings}
 use Rattle.monitor.specs.declared.record.Monitor.{Monitor}
 use Rattle.monitor.specs.Commands.{counterOf}
-use Rattle.monitor.specs.Facts.{inForce, sum, time, clockAt, hostSet, enables, threshold, enabledTime, windowAt, timerAt, Counted, countedAt, those, activeFor, active, static, orLoad, loadsAfter, lastLoad, loadedOf, each, windowOf, debugAt, recordOf}
+use Rattle.monitor.specs.Facts.{inForce, sum, time, clockAt, hostAt, enables, threshold, enabledTime, windowAt, timerAt, Counted, countedAt, those, activeFor, active, static, orLoad, loadsAfter, lastLoad, loadedOf, each, windowFrom, debugAt, recordOf}
 use Rattle.monitor.specs.History.{Effect, configured, completed, passed, clockSet, poweredUp, nothing, Past, found, latest, since, andThen, settingsIn}
 use Rattle.monitor.specs.Settings.{decoded}
 use Rattle.monitor.proofs.histories.Lists.{All, Some, all-map}
@@ -152,14 +152,14 @@ described settings timer host partial clock debug w xs =
       clock = clock;
       loaded = each (λ k. loadedOf (lastLoad (those (within w k) xs)));
       debug = debug;
-      «static_window» = windowOf (λ k. those (preceding w k) xs);
-      «active_window» = windowOf (λ k. those (within w k) xs);
+      «static_window» = windowFrom (λ k. those (preceding w k) xs);
+      «active_window» = windowFrom (λ k. those (within w k) xs);
     }
 
 pub as-described :
     (past : Past) →
     recordOf past ≡
-    described (inForce past) (timerAt past) (hostSet past) (enabledTime past % 300000) (clockAt past) (debugAt past) (windowAt past)
+    described (inForce past) (timerAt past) (hostAt past) (enabledTime past % 300000) (clockAt past) (debugAt past) (windowAt past)
     (since enables countedAt past)
 unfolding recordOf active static
 as-described past = refl

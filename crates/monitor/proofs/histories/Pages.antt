@@ -9,7 +9,7 @@ use Rattle.logpage.proofs.Apart.{page-apart}
 use Rattle.logpage.specs.Page.{pageBytes}
 use Rattle.logpage.specs.declared.Window.{Window}
 use Rattle.monitor.specs.Claims.{SameCounter, Agree, PagesAgree}
-use Rattle.monitor.specs.Facts.{inForce, timerAt, active, static, Counted, countOf, lastLoad, stampOf, latencyOf, unitsOf, each, windowOf, debugAt, factsOf}
+use Rattle.monitor.specs.Facts.{inForce, timerAt, active, static, Counted, countOf, lastLoad, stampOf, latencyOf, unitsOf, each, windowFrom, debugAt, factsOf}
 use Rattle.monitor.specs.History.{History, pastOf}
 use Rattle.monitor.proofs.histories.Bounds.{facts-fit}
 use Rattle.monitor.proofs.histories.Given.{page-shows-facts}
@@ -21,7 +21,7 @@ each-at d f g e n few =
 
 -- windows, by the completions counted for each counter
 module _ (f g : ℕ → List Counted) where
-  windows-same : ((n : ℕ) → n < 12 → SameCounter (f n) (g n)) → windowOf f ≡ windowOf g
+  windows-same : ((n : ℕ) → n < 12 → SameCounter (f n) (g n)) → windowFrom f ≡ windowFrom g
   windows-same h =
       λ i. record {
         counters = from-same 0 12 (λ n. countOf (f n)) (λ n. countOf (g n)) (λ n l few. h n few .count) i;
@@ -30,7 +30,7 @@ module _ (f g : ℕ → List Counted) where
         units = from-same 0 12 (λ n. unitsOf (lastLoad (f n))) (λ n. unitsOf (lastLoad (g n))) (λ n l few. h n few .units) i;
       }
 
-  counters-same : windowOf f ≡ windowOf g → (n : ℕ) → n < 12 → SameCounter (f n) (g n)
+  counters-same : windowFrom f ≡ windowFrom g → (n : ℕ) → n < 12 → SameCounter (f n) (g n)
   counters-same e n few =
       record {
         count = each-at 0 (λ k. countOf (f k)) (λ k. countOf (g k)) (ap (λ w. w .counters) e) n few;

@@ -11,7 +11,7 @@ use borrow.Author.Tests.{le-ltb, ltb-true, ltb-false, eqb-true, eqb-false}
 use Rattle.logpage.specs.Fields.{noSettings, emptyWindow, noDebugLog}
 use Rattle.monitor.specs.declared.record.Monitor.{Monitor}
 use Rattle.monitor.specs.Claims.{PlayedAsFacts, WindowEnds}
-use Rattle.monitor.specs.Facts.{inForce, sum, clockAt, hostSet, enables, threshold, enabledTime, windowAt, timerAt, Counted, countedAt, those, active, static, countOf, lastLoad, from, each, windowOf, loadedOf, discards, triggered, first, logOf, debugAt, recordOf}
+use Rattle.monitor.specs.Facts.{inForce, sum, clockAt, hostAt, enables, threshold, enabledTime, windowAt, timerAt, Counted, countedAt, those, active, static, countOf, lastLoad, from, each, windowFrom, loadedOf, discards, triggered, first, logOf, debugAt, recordOf}
 use Rattle.monitor.specs.History.{Call, settings, completion, elapsed, clock, powerUp, page, settingsBack, History, after, playFrom, play, Effect, configured, clockSet, poweredUp, nothing, passed, asked, refusalOf, ifAccepted, effectOf, Past, pastOf, found, latest, since}
 use Rattle.monitor.specs.Record.{newMonitor, afterSettings, afterElapsed, elapsedReply, afterClock, afterPowerUp}
 use Rattle.monitor.specs.Refusals.{settingsRefusal, fieldRefusal, elapsedRefusal, clockRefusal, eitherAbove, pageRefusal, settingsBackRefusal}
@@ -50,13 +50,13 @@ module _ (past : Past) (s : List ℕ) where
   -- the record of the facts, of these four
   abbrev of-these : ℕ → ℕ → List Counted → Monitor
   of-these t p xs =
-      described (decoded s) (t / 300000 - t / (300000 * p) * p) (hostSet past) (t % 300000) (clockAt past)
+      described (decoded s) (t / 300000 - t / (300000 * p) * p) (hostAt past) (t % 300000) (clockAt past)
       (cond (eqb (discard s) 1) noDebugLog (debugAt past))
       (t / (300000 * p))
       xs
 
   facts-after : recordOf (configured s ∷ past) ≡ of-these (enabledTime (configured s ∷ past)) (threshold (configured s ∷ past)) (since enables countedAt (configured s ∷ past))
-  unfolding recordOf inForce clockAt hostSet timerAt windowAt active static latest since
+  unfolding recordOf inForce clockAt hostAt timerAt windowAt active static latest since
   facts-after = rw debug-after
 
   emptied-or-kept :
@@ -76,22 +76,22 @@ module _ (past : Past) (s : List ℕ) where
       sym facts-after
 
 clock-step : (past : Past) (value : ℕ) → value ≤ 281474976710655 → afterClock (recordOf past) value ≡ recordOf (clockSet value ∷ past)
-unfolding afterClock clockRefusal recordOf inForce clockAt hostSet timerAt windowAt enabledTime threshold active static debugAt latest since sum
+unfolding afterClock clockRefusal recordOf inForce clockAt hostAt timerAt windowAt enabledTime threshold active static debugAt latest since sum
 clock-step past value h =
     let e : value ≡ min (value + 0) 281474976710655 = omega arith in
     rw (le-ltb 281474976710655 value h)
     (ap (λ n. described (inForce past) (timerAt past) true (enabledTime past % 300000) n (debugAt past) (windowAt past) (since enables countedAt past)) e)
 
 power-up-step : (past : Past) → afterPowerUp (recordOf past) ≡ recordOf (poweredUp ∷ past)
-unfolding afterPowerUp recordOf inForce clockAt hostSet timerAt windowAt enabledTime threshold active static debugAt latest since sum
+unfolding afterPowerUp recordOf inForce clockAt hostAt timerAt windowAt enabledTime threshold active static debugAt latest since sum
 power-up-step past = refl
 
 nothing-step : (past : Past) → recordOf past ≡ recordOf (nothing ∷ past)
-unfolding recordOf inForce clockAt hostSet timerAt windowAt enabledTime threshold active static debugAt latest since sum
+unfolding recordOf inForce clockAt hostAt timerAt windowAt enabledTime threshold active static debugAt latest since sum
 nothing-step past = refl
 
 new-step : newMonitor ≡ recordOf []
-unfolding newMonitor recordOf inForce clockAt hostSet timerAt windowAt enabledTime threshold active static debugAt latest since sum emptyWindow those lastLoad countOf from first
+unfolding newMonitor recordOf inForce clockAt hostAt timerAt windowAt enabledTime threshold active static debugAt latest since sum emptyWindow those lastLoad countOf from first
 new-step = refl
 
 -- a refused call
