@@ -90,6 +90,10 @@ countedAt e past =
     found none (λ c. found none (λ n. some (record { counter = n; command = c; before = past })) (counterOf (inForce past) c))
     (completionIn e)
 
+-- the completions counted since those settings, the newest first
+abbrev pub sinceEnabled : Past → List Counted
+sinceEnabled past = since enables countedAt past
+
 -- those of a list that pass a test
 unfoldable pub those : (Counted → Bool) → List Counted → List Counted
 those test [] = []
@@ -103,10 +107,10 @@ abbrev pub staticFor : Past → ℕ → Counted → Bool
 staticFor past n x = eqb (windowAt (x .before) + 1) (windowAt past) && eqb (x .counter) n
 
 unfoldable pub active : Past → ℕ → List Counted
-active past n = those (activeFor past n) (since enables countedAt past)
+active past n = those (activeFor past n) (sinceEnabled past)
 
 unfoldable pub static : Past → ℕ → List Counted
-static past n = those (staticFor past n) (since enables countedAt past)
+static past n = those (staticFor past n) (sinceEnabled past)
 
 -- Count: the number of the pair's counted completions in the window, held at 4,294,967,295.
 unfoldable pub countOf : List Counted → ℕ

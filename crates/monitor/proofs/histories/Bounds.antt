@@ -1,6 +1,6 @@
 -- The facts of a history of bytes fit their fields of the page.
-use Prim.Native.Nat.{ℕ, zero, suc, _+_, _*_, _-_, _/_, _≤_, _<_, _^_, min}
-use mathlib.Core.Path.{_≡_, refl, sym, ap, _∙_}
+use Prim.Native.Nat.{ℕ, zero, suc, _*_, _-_, _/_, _<_}
+use mathlib.Core.Path.{_≡_, refl}
 use mathlib.Core.Bool.{Bool, true, false, cond}
 use mathlib.Core.List.{List, [], _∷_}
 use mathlib.Core.Option.{Option, none, some}
@@ -9,21 +9,26 @@ use native.Mathlib.Omega.{arith}
 use lib.ListN.{getD, length}
 use lib.Pow.{pow-lt}
 use Rattle.logpage.proofs.Apart.{FitsSettings, FitsWindow, FitsDebug, Fits}
-use Rattle.logpage.specs.Fields.{unset, noSettings, noDebugLog}
-use Rattle.logpage.specs.declared.DebugLog.{DebugLog}
-use Rattle.logpage.specs.declared.Settings.{Settings}
+use Rattle.logpage.specs.Fields.{noSettings, noDebugLog}
 use Rattle.monitor.specs.declared.commands.Completion.{Completion}
 use Rattle.monitor.specs.Commands.{counterOf, millisecondsOf}
-use Rattle.monitor.specs.Facts.{inForce, sum, clockAt, enables, enabledThreshold, threshold, enabledTime, whileEnabled, windowAt, timerAt, Counted, countedAt, those, countOf, lastLoad, stampOf, latencyOf, triggered, discards, orFirst, first, logOf, debugAt, active, static, from, windowFrom, factsOf}
-use Rattle.monitor.specs.History.{Call, settings, completion, elapsed, clock, powerUp, page, settingsBack, History, Bytes, BytesIn, OfBytes, Effect, configured, completed, passed, clockSet, poweredUp, nothing, ifAccepted, asked, refusalOf, effectOf, Past, pastOf, settingsIn, completionIn, found, orElse, latest, andThen, since}
-use Rattle.monitor.specs.Refusals.{settingsRefusal, elapsedRefusal, clockRefusal, pageRefusal, settingsBackRefusal}
+use Rattle.monitor.specs.Facts.{inForce, sum, enables, enabledThreshold, threshold, enabledTime, whileEnabled}
+use Rattle.monitor.specs.Facts.{windowAt, timerAt, Counted, countedAt, those, countOf, lastLoad, stampOf}
+use Rattle.monitor.specs.Facts.{latencyOf, triggered, discards, orFirst, first, logOf, debugAt, active, static}
+use Rattle.monitor.specs.Facts.{from, windowFrom, factsOf}
+use Rattle.monitor.specs.History.{Call, settings, completion, elapsed, clock, powerUp, page, settingsBack}
+use Rattle.monitor.specs.History.{History, Bytes, BytesIn, OfBytes, Effect, configured, completed, passed}
+use Rattle.monitor.specs.History.{clockSet, poweredUp, nothing, ifAccepted, effectOf, Past, pastOf, settingsIn}
+use Rattle.monitor.specs.History.{completionIn, found, orElse, latest, andThen, since}
+use Rattle.monitor.specs.Refusals.{settingsRefusal, elapsedRefusal, clockRefusal, pageRefusal}
+use Rattle.monitor.specs.Refusals.{settingsBackRefusal}
 use Rattle.monitor.specs.Settings.{decoded}
 use Rattle.monitor.proofs.refusals.Laws.{Accepted, accepted}
 use Rattle.monitor.proofs.commands.Laws.{counter-below}
 use Rattle.monitor.proofs.histories.Facts.{Good, enabled-positive, clock-top}
 use Rattle.monitor.proofs.histories.Lists.{All, Some, all-those, length-from}
 use Rattle.monitor.proofs.histories.Play.{good}
-use Rattle.monitor.proofs.histories.Windows.{low, high}
+use Rattle.monitor.proofs.histories.Windows.{high}
 
 -- what the latest place finds, and what is found since a place, have what each place finds
 module _ {A : Type 0} (P : A → Type 0) where
@@ -36,12 +41,20 @@ module _ {A : Type 0} (P : A → Type 0) where
       by none k earlier = earlier
       by (some x) k earlier = k
 
-  pub since-all : (start : Effect → Bool) (f : Effect → Past → Option A) → ((e : Effect) (past : Past) → Some P (f e past)) → (past : Past) → All P (since start f past)
+  pub since-all :
+      (start : Effect → Bool) (f : Effect → Past → Option A) →
+      ((e : Effect) (past : Past) → Some P (f e past)) →
+      (past : Past) →
+      All P (since start f past)
   unfolding since
   since-all start f k [] = tt
   since-all start f k (e ∷ past) = by (start e) (f e past) (k e past) (since-all start f k past)
     where
-      by : (b : Bool) (o : Option A) → Some P o → All P (since start f past) → All P (cond b [] (andThen o (since start f past)))
+      by :
+          (b : Bool) (o : Option A) →
+          Some P o →
+          All P (since start f past) →
+          All P (cond b [] (andThen o (since start f past)))
       by true o q earlier = tt
       by false none q earlier = earlier
       by false (some x) q earlier = (q, earlier)
@@ -118,11 +131,18 @@ module _ (past : Past) (sound : SoundPast past) where
   unfolding threshold
   threshold-below = by (latest enabledThreshold past) (latest-some (λ p. p < 65536) enabledThreshold past (each-below past sound))
     where
-      of-settings : (s : List ℕ) → Sound s → (b : Bool) → Some (λ p. p < 65536) (cond b (some (decoded s .«timer_threshold»)) none)
+      of-settings :
+          (s : List ℕ) →
+          Sound s →
+          (b : Bool) →
+          Some (λ p. p < 65536) (cond b (some (decoded s .«timer_threshold»)) none)
       of-settings s k true = settings-of-bytes s (k .bytes) .threshold
       of-settings s k false = tt
 
-      of-effect : (o : Option (List ℕ)) → Some Sound o → Some (λ p. p < 65536) (found none (λ s. cond (decoded s .enabled) (some (decoded s .«timer_threshold»)) none) o)
+      of-effect :
+          (o : Option (List ℕ)) →
+          Some Sound o →
+          Some (λ p. p < 65536) (found none (λ s. cond (decoded s .enabled) (some (decoded s .«timer_threshold»)) none) o)
       of-effect none k = tt
       of-effect (some s) k = of-settings s k (decoded s .enabled)
 
@@ -140,13 +160,21 @@ unfolding threshold enabledTime since latest sum
 unstarted [] g z = refl
 unstarted (configured s ∷ past) g z = by (decoded s .enabled) z (unstarted past (g .1))
   where
-    by : (b : Bool) → found 0 (λ p. p) (orElse (cond b (some (decoded s .«timer_threshold»)) none) (latest enabledThreshold past)) ≡ 0 → (threshold past ≡ 0 → enabledTime past ≡ 0) → sum (cond b [] (since enables whileEnabled past)) ≡ 0
+    by :
+        (b : Bool) →
+        found 0 (λ p. p) (orElse (cond b (some (decoded s .«timer_threshold»)) none) (latest enabledThreshold past)) ≡ 0 →
+        (threshold past ≡ 0 → enabledTime past ≡ 0) →
+        sum (cond b [] (since enables whileEnabled past)) ≡ 0
     by true y k = refl
     by false y k = k y
 unstarted (completed c ∷ past) g z = unstarted past (g .1) z
 unstarted (passed ms ∷ past) g z = by (inForce past .enabled) refl (unstarted past (g .1) z)
   where
-    by : (b : Bool) → inForce past .enabled ≡ b → enabledTime past ≡ 0 → sum (andThen (cond b (some ms) none) (since enables whileEnabled past)) ≡ 0
+    by :
+        (b : Bool) →
+        inForce past .enabled ≡ b →
+        enabledTime past ≡ 0 →
+        sum (andThen (cond b (some ms) none) (since enables whileEnabled past)) ≡ 0
     by true on k = absurd (omega (arith, enabled-positive past (g .1) on, z))
     by false on k = k
 unstarted (clockSet value ∷ past) g z = unstarted past (g .1) z
@@ -157,7 +185,9 @@ timer-below : (past : Past) → Good past → SoundPast past → timerAt past < 
 unfolding timerAt windowAt
 timer-below past g sound = by (decLt 0 (threshold past))
   where
-    by : Dec (0 < threshold past) → enabledTime past / 300000 - enabledTime past / (300000 * threshold past) * threshold past < 65536
+    by :
+        Dec (0 < threshold past) →
+        enabledTime past / 300000 - enabledTime past / (300000 * threshold past) * threshold past < 65536
     by (yes h) = omega (arith, high (enabledTime past) (threshold past) h, threshold-below past sound)
     by (no h) = omega (arith, unstarted past g (omega arith))
 

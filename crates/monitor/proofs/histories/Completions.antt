@@ -1,28 +1,30 @@
 -- A completion makes of the record that the facts describe the one that they describe after it.
-use Prim.Native.Nat.{ℕ, suc, _+_, _*_, _-_, _/_, _%_, _≤_, _<_, min}
+use Prim.Native.Nat.{ℕ, _+_, _*_, _-_, _%_, _<_}
 use mathlib.Core.Path.{_≡_, refl, sym, ap, _∙_}
 use mathlib.Core.Bool.{Bool, true, false, cond, _&&_, _||_}
-use mathlib.Core.List.{List, [], _∷_}
+use mathlib.Core.List.{List, _∷_}
 use mathlib.Core.Option.{Option, none, some}
 use native.Mathlib.Nat.{zero-add}
 use native.Mathlib.Omega.{arith}
 use lib.Dec.{eqb}
-use lib.ListN.{length, getD, set}
+use lib.ListN.{getD, set}
 use borrow.Author.Tests.{eq-eqb, ne-eqb, eqb-true, eqb-false}
 use Rattle.logpage.specs.Fields.{unset, noDebugLog}
-use Rattle.logpage.specs.declared.DebugLog.{DebugLog}
-use Rattle.logpage.specs.declared.Window.{Window}
 use Rattle.monitor.specs.declared.commands.Completion.{Completion}
 use Rattle.monitor.specs.declared.record.Monitor.{Monitor}
 use Rattle.monitor.specs.Commands.{counterOf, millisecondsOf}
-use Rattle.monitor.specs.Counting.{bit, onceMore, loads, countedIn, triggers, debugLog}
-use Rattle.monitor.specs.Facts.{inForce, time, clockAt, hostAt, enables, threshold, enabledTime, windowAt, timerAt, Counted, countedAt, those, activeFor, staticFor, active, static, countOf, loadsAfter, orLoad, lastLoad, stampOf, latencyOf, unitsOf, loadedOf, from, each, windowFrom, discards, triggered, orFirst, first, logOf, debugAt, recordOf}
+use Rattle.monitor.specs.Counting.{bit, onceMore, loads, triggers, debugLog}
+use Rattle.monitor.specs.Facts.{inForce, time, clockAt, hostAt, threshold, enabledTime, windowAt, timerAt}
+use Rattle.monitor.specs.Facts.{Counted, countedAt, those, activeFor, staticFor, active, static, countOf}
+use Rattle.monitor.specs.Facts.{loadsAfter, orLoad, lastLoad, stampOf, latencyOf, loadedOf, each, windowFrom}
+use Rattle.monitor.specs.Facts.{discards, triggered, orFirst, first, logOf, debugAt, recordOf, sinceEnabled}
 use Rattle.monitor.specs.History.{completed, Past, found, andThen, latest, since}
 use Rattle.monitor.specs.Record.{afterCompletion}
 use Rattle.monitor.specs.Timer.{inWindow}
 use Rattle.monitor.proofs.commands.Laws.{counter-below, counter-enabled, named}
 use Rattle.monitor.proofs.record.Laws.{decide}
-use Rattle.monitor.proofs.histories.Facts.{Good, Fine, fine, Here, here, span, into, clock-top, last-load-all, described}
+use Rattle.monitor.proofs.histories.Facts.{Good, fine, Here, here, span, into, clock-top, last-load-all}
+use Rattle.monitor.proofs.histories.Facts.{described}
 use Rattle.monitor.proofs.histories.Lists.{All, Some, all-those, from-at, from-same, from-set}
 use Rattle.monitor.proofs.histories.Windows.{in-window}
 
@@ -46,7 +48,7 @@ module _ (past : Past) (c : Completion) (n : ℕ) where
 
   -- the completions of counter k in the active window, and this one
   abbrev joined : ℕ → List Counted
-  joined k = those (activeFor past k) (here-counted ∷ since enables countedAt past)
+  joined k = those (activeFor past k) (here-counted ∷ sinceEnabled past)
 
   abbrev mine : List Counted
   mine = active past n
@@ -93,7 +95,9 @@ module _ (past : Past) (c : Completion) (n : ℕ) where
   written d f true e = stored (λ xs. found d f (lastLoad xs)) (f here-counted) (rw (or-load here-counted (lastLoad mine), e))
   written d f false e = kept (λ xs. found d f (lastLoad xs)) (rw (or-load here-counted (lastLoad mine), e))
 
-  pub counted-more : n < 12 → set (each (λ k. countOf (active past k))) n (onceMore (getD (each (λ k. countOf (active past k))) n 0)) ≡ each (λ k. countOf (joined k))
+  pub counted-more :
+      n < 12 →
+      set (each (λ k. countOf (active past k))) n (onceMore (getD (each (λ k. countOf (active past k))) n 0)) ≡ each (λ k. countOf (joined k))
   unfolding countOf
   counted-more few = rw (from-at 0 12 (λ k. countOf (active past k)) n 0 few, zero-add n) (stored countOf _ (omega arith))
 
@@ -121,7 +125,7 @@ module _ (past : Past) (c : Completion) (n : ℕ) where
       by (some y) k = rw (ne-eqb (clockAt (y .before)) unset (λ e. omega (arith, clock-top (y .before))), ← k)
 
   -- the last finished window does not take it in
-  pub left-out : (k : ℕ) → those (staticFor past k) (here-counted ∷ since enables countedAt past) ≡ static past k
+  pub left-out : (k : ℕ) → those (staticFor past k) (here-counted ∷ sinceEnabled past) ≡ static past k
   unfolding those static
   left-out k = rw (ne-eqb (windowAt past + 1) (windowAt past) (λ e. omega arith))
 
@@ -147,7 +151,7 @@ module _ (past : Past) (c : Completion) (n : ℕ) where
 
 all-active : (past : Past) → Good past → inForce past .enabled ≡ true → (n : ℕ) → All (Here past) (active past n)
 unfolding active
-all-active past g on n = all-those (activeFor past n) (λ x t f. here past on n x t f) (since enables countedAt past) (fine past g)
+all-active past g on n = all-those (activeFor past n) (λ x t f. here past on n x t f) (sinceEnabled past) (fine past g)
 
 -- the facts after a completion, by the counter that it counts for
 abbrev found-at : Past → Completion → Option ℕ → Option Counted
@@ -158,17 +162,27 @@ after-it past c o =
     described (inForce past) (timerAt past) (hostAt past) (enabledTime past % 300000) (clockAt past)
     (found noDebugLog logOf (first (those triggered (andThen (found-at past c o) (since discards countedAt past)))))
     (windowAt past)
-    (andThen (found-at past c o) (since enables countedAt past))
+    (andThen (found-at past c o) (sinceEnabled past))
 
-facts-after : (past : Past) (c : Completion) → recordOf (completed c ∷ past) ≡ after-it past c (counterOf (inForce past) c)
+facts-after :
+    (past : Past) (c : Completion) →
+    recordOf (completed c ∷ past) ≡ after-it past c (counterOf (inForce past) c)
 unfolding recordOf inForce clockAt hostAt timerAt windowAt enabledTime threshold active static debugAt since latest
 facts-after past c = refl
 
-not-counted-step : (past : Past) (c : Completion) → counterOf (inForce past) c ≡ none → afterCompletion (recordOf past) c ≡ after-it past c none
+not-counted-step :
+    (past : Past) (c : Completion) →
+    counterOf (inForce past) c ≡ none →
+    afterCompletion (recordOf past) c ≡ after-it past c none
 unfolding afterCompletion recordOf active static debugAt
 not-counted-step past c e = rw e
 
-counted-step : (past : Past) → Good past → (c : Completion) (n : ℕ) → counterOf (inForce past) c ≡ some n → afterCompletion (recordOf past) c ≡ after-it past c (some n)
+counted-step :
+    (past : Past) →
+    Good past →
+    (c : Completion) (n : ℕ) →
+    counterOf (inForce past) c ≡ some n →
+    afterCompletion (recordOf past) c ≡ after-it past c (some n)
 unfolding recordOf
 counted-step past g c n e =
     let few = counter-below (inForce past) c n e in
@@ -194,7 +208,11 @@ counted-step past g c n e =
           };
     })
 
-pub completion-step : (past : Past) → Good past → (c : Completion) → afterCompletion (recordOf past) c ≡ recordOf (completed c ∷ past)
+pub completion-step :
+    (past : Past) →
+    Good past →
+    (c : Completion) →
+    afterCompletion (recordOf past) c ≡ recordOf (completed c ∷ past)
 completion-step past g c = by (counterOf (inForce past) c) refl ∙ sym (facts-after past c)
   where
     by : (o : Option ℕ) → counterOf (inForce past) c ≡ o → afterCompletion (recordOf past) c ≡ after-it past c o

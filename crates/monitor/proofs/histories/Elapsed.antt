@@ -1,32 +1,35 @@
 -- Elapsed time makes of the record that the facts describe the one that they describe after it.
-use Prim.Native.Nat.{ℕ, suc, _+_, _*_, _-_, _/_, _%_, _≤_, _<_, min}
+use Prim.Native.Nat.{ℕ, suc, _+_, _*_, _-_, _/_, _%_, _≤_, _<_}
 use mathlib.Core.Path.{_≡_, refl, sym, ap, _∙_}
-use mathlib.Core.Bool.{Bool, true, false, cond, not, _&&_}
+use mathlib.Core.Bool.{Bool, true, false, cond, not}
 use mathlib.Core.List.{List, [], _∷_}
-use mathlib.Core.Option.{Option, none, some}
 use native.Mathlib.Numerals.{add-one}
 use native.Mathlib.Omega.{arith}
-use lib.Dec.{eqb, leb, ltb, eqb·suc-suc}
-use lib.ListN.{length, replicate}
-use borrow.Author.Tests.{eq-eqb, ne-eqb, lt-ltb, le-ltb, le-leb, lt-leb, leb-true, leb-false, ltb-true, ltb-false}
+use lib.Dec.{eqb, leb, eqb·suc-suc}
+use lib.ListN.{replicate}
+use borrow.Author.Tests.{eq-eqb, ne-eqb, lt-ltb, le-ltb, le-leb, lt-leb, leb-true, leb-false}
 use Rattle.logpage.specs.Fields.{emptyWindow}
 use Rattle.monitor.specs.declared.record.Monitor.{Monitor}
 use Rattle.monitor.specs.declared.timer.Tick.{Tick}
-use Rattle.monitor.specs.Facts.{inForce, sum, clockAt, hostAt, enables, threshold, enabledTime, windowAt, timerAt, Counted, countedAt, those, activeFor, active, static, countOf, lastLoad, stampOf, latencyOf, unitsOf, loadedOf, each, windowFrom, debugAt, recordOf}
+use Rattle.monitor.specs.Facts.{inForce, sum, clockAt, hostAt, threshold, enabledTime, windowAt, timerAt, Counted}
+use Rattle.monitor.specs.Facts.{those, activeFor, active, static, countOf, lastLoad, stampOf, latencyOf, unitsOf}
+use Rattle.monitor.specs.Facts.{loadedOf, each, windowFrom, debugAt, recordOf, sinceEnabled}
 use Rattle.monitor.specs.History.{passed, Past, latest, since}
 use Rattle.monitor.specs.Answers.{ended}
 use Rattle.monitor.specs.Record.{noLoads, afterElapsed, elapsedReply}
 use Rattle.monitor.specs.Timer.{grown, tick, ticked}
 use Rattle.monitor.proofs.record.Laws.{moved, elapsed-accepted}
-use Rattle.monitor.proofs.histories.Facts.{Good, Fine, fine, span, enabled-threshold, enabled-positive, within, preceding, described}
-use Rattle.monitor.proofs.histories.Lists.{All, from-same, from-replicate, those-same, those-none}
-use Rattle.monitor.proofs.histories.Windows.{none-taken, none-partial, none-window, one-taken, one-partial, goes-on, ends, ends-timer, one-more}
+use Rattle.monitor.proofs.histories.Facts.{Good, Fine, fine, span, enabled-threshold, enabled-positive, within}
+use Rattle.monitor.proofs.histories.Facts.{preceding, described}
+use Rattle.monitor.proofs.histories.Lists.{from-replicate, those-same, those-none}
+use Rattle.monitor.proofs.histories.Windows.{none-taken, none-partial, none-window, one-taken, one-partial}
+use Rattle.monitor.proofs.histories.Windows.{goes-on, ends, ends-timer, one-more}
 
 -- the facts after time that brought the time while enabled to t
 abbrev after-time : Past → ℕ → ℕ → Monitor
 after-time past ms t =
     described (inForce past) (t / 300000 - t / span past * threshold past) (hostAt past) (t % 300000) (grown (clockAt past) ms)
-    (debugAt past) (t / span past) (since enables countedAt past)
+    (debugAt past) (t / span past) (sinceEnabled past)
 
 time-after :
     (past : Past) (ms : ℕ) (b : Bool) →
@@ -43,27 +46,34 @@ clock-after past ms = omega arith
 facts-after : (past : Past) (ms : ℕ) → recordOf (passed ms ∷ past) ≡ after-time past ms (enabledTime (passed ms ∷ past))
 unfolding recordOf inForce hostAt timerAt windowAt threshold active static debugAt latest since
 facts-after past ms =
-    ap (λ n. described (inForce past) (timerAt (passed ms ∷ past)) (hostAt past) (enabledTime (passed ms ∷ past) % 300000) n (debugAt past) (windowAt (passed ms ∷ past)) (since enables countedAt past))
+    ap (λ n. described (inForce past) (timerAt (passed ms ∷ past)) (hostAt past) (enabledTime (passed ms ∷ past) % 300000) n (debugAt past) (windowAt (passed ms ∷ past)) (sinceEnabled past))
     (clock-after past ms)
 
 -- what a window's end makes of what is asked of each counter's completions
 module _ (past : Past) (g : Good past) {A : Type 0} (f : List Counted → A) where
-  emptied : replicate 12 (f []) ≡ each (λ k. f (those (within (suc (windowAt past)) k) (since enables countedAt past)))
+  emptied : replicate 12 (f []) ≡ each (λ k. f (those (within (suc (windowAt past)) k) (sinceEnabled past)))
   emptied = sym (from-replicate 0 12 _ (f []) (λ k. ap f (nothing-late k)))
     where
       late : (k : ℕ) (x : Counted) → Fine past x → within (suc (windowAt past)) k x ≡ false
       late k x h = rw (ne-eqb (windowAt (x .before)) (suc (windowAt past)) (λ e. omega (arith, h .early)))
 
-      nothing-late : (k : ℕ) → those (within (suc (windowAt past)) k) (since enables countedAt past) ≡ []
-      nothing-late k = those-none (within (suc (windowAt past)) k) (Fine past) (late k) (since enables countedAt past) (fine past g)
+      nothing-late : (k : ℕ) → those (within (suc (windowAt past)) k) (sinceEnabled past) ≡ []
+      nothing-late k = those-none (within (suc (windowAt past)) k) (Fine past) (late k) (sinceEnabled past) (fine past g)
 
-handed-on : (past : Past) → Good past → (k : ℕ) → active past k ≡ those (preceding (suc (windowAt past)) k) (since enables countedAt past)
+handed-on :
+    (past : Past) →
+    Good past →
+    (k : ℕ) →
+    active past k ≡ those (preceding (suc (windowAt past)) k) (sinceEnabled past)
 unfolding active
 handed-on past g k =
     those-same (activeFor past k) (Fine past) (preceding (suc (windowAt past)) k) (λ x h. rw (add-one, eqb·suc-suc (windowAt (x .before)) (windowAt past)))
-    (since enables countedAt past) (fine past g)
+    (sinceEnabled past) (fine past g)
 
-empty-handed : (past : Past) → Good past → emptyWindow ≡ windowFrom (λ k. those (within (suc (windowAt past)) k) (since enables countedAt past))
+empty-handed :
+    (past : Past) →
+    Good past →
+    emptyWindow ≡ windowFrom (λ k. those (within (suc (windowAt past)) k) (sinceEnabled past))
 unfolding emptyWindow countOf lastLoad
 empty-handed past g =
     λ i. record {
@@ -73,7 +83,10 @@ empty-handed past g =
       units = emptied past g (λ xs. unitsOf (lastLoad xs)) i;
     }
 
-no-loads : (past : Past) → Good past → noLoads ≡ each (λ k. loadedOf (lastLoad (those (within (suc (windowAt past)) k) (since enables countedAt past))))
+no-loads :
+    (past : Past) →
+    Good past →
+    noLoads ≡ each (λ k. loadedOf (lastLoad (those (within (suc (windowAt past)) k) (sinceEnabled past))))
 unfolding lastLoad
 no-loads past g = emptied past g (λ xs. loadedOf (lastLoad xs))
 
@@ -88,7 +101,9 @@ module _ (threshold timer partial ms : ℕ) where
   tick-few few = rw (lt-ltb _ _ few)
 
   module _ (many : 300000 ≤ partial + ms) where
-    tick-more : timer + 1 < threshold → tick (timer + 1) (partial + ms - 300000) false ≡ ticked true threshold timer partial ms
+    tick-more :
+        timer + 1 < threshold →
+        tick (timer + 1) (partial + ms - 300000) false ≡ ticked true threshold timer partial ms
     unfolding ticked
     tick-more less = rw (le-ltb _ _ many, lt-leb _ _ less)
 

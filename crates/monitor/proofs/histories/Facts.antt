@@ -1,5 +1,5 @@
 -- What holds of the facts of accepted effects.
-use Prim.Native.Nat.{ℕ, _+_, _*_, _-_, _/_, _%_, _≤_, _<_}
+use Prim.Native.Nat.{ℕ, _+_, _*_, _-_, _%_, _≤_, _<_}
 use mathlib.Core.Path.{_≡_, refl, sym, ap, _∙_}
 use mathlib.Core.Bool.{Bool, true, false, cond, _&&_, false≢true, true≢false}
 use mathlib.Core.List.{List, [], _∷_}
@@ -13,8 +13,11 @@ use Rattle.logpage.specs.declared.DebugLog.{DebugLog}
 use Rattle.logpage.specs.declared.Settings.{Settings}
 use Rattle.monitor.specs.declared.record.Monitor.{Monitor}
 use Rattle.monitor.specs.Commands.{counterOf}
-use Rattle.monitor.specs.Facts.{inForce, sum, time, clockAt, hostAt, enables, threshold, enabledTime, windowAt, timerAt, Counted, countedAt, those, activeFor, active, static, orLoad, loadsAfter, lastLoad, loadedOf, each, windowFrom, debugAt, recordOf}
-use Rattle.monitor.specs.History.{Effect, configured, completed, passed, clockSet, poweredUp, nothing, Past, found, latest, since, andThen, settingsIn}
+use Rattle.monitor.specs.Facts.{inForce, sum, time, clockAt, hostAt, threshold, enabledTime, windowAt, timerAt}
+use Rattle.monitor.specs.Facts.{Counted, those, activeFor, active, static, orLoad, loadsAfter, lastLoad, loadedOf}
+use Rattle.monitor.specs.Facts.{each, windowFrom, debugAt, recordOf, sinceEnabled}
+use Rattle.monitor.specs.History.{Effect, configured, completed, passed, clockSet, poweredUp, nothing, Past}
+use Rattle.monitor.specs.History.{found, latest, since, andThen}
 use Rattle.monitor.specs.Settings.{decoded}
 use Rattle.monitor.proofs.histories.Lists.{All, Some, all-map}
 use Rattle.monitor.proofs.histories.Windows.{later}
@@ -68,44 +71,54 @@ into x = enabledTime (x .before) % span (x .before)
 -- what holds of each counted completion since the monitor was enabled
 pub record Fine (past : Past) (x : Counted) : Type 0 where
   pub early : windowAt (x .before) ≤ windowAt past
-  pub apart : inForce past .enabled ≡ true → windowAt (x .before) * span past + into x + time past ≡ time (x .before) + enabledTime past
+  pub apart :
+      inForce past .enabled ≡ true →
+      windowAt (x .before) * span past + into x + time past ≡ time (x .before) + enabledTime past
 
-pub fine : (past : Past) → Good past → All (Fine past) (since enables countedAt past)
+pub fine : (past : Past) → Good past → All (Fine past) (sinceEnabled past)
 unfolding since windowAt inForce time enabledTime threshold latest sum
 fine [] g = tt
 fine (configured s ∷ past) g = go (decoded s .enabled) refl (fine past (g .1))
   where
-    go : (b : Bool) → decoded s .enabled ≡ b → All (Fine past) (since enables countedAt past) → All (Fine (configured s ∷ past)) (cond b [] (since enables countedAt past))
+    go :
+        (b : Bool) →
+        decoded s .enabled ≡ b →
+        All (Fine past) (sinceEnabled past) →
+        All (Fine (configured s ∷ past)) (cond b [] (sinceEnabled past))
     go true e f = tt
     go false e f =
-        all-map (λ x k. record { early = rw e (k .early); apart = λ on. absurd (true≢false (sym on ∙ e)) }) (since enables countedAt past) f
+        all-map (λ x k. record { early = rw e (k .early); apart = λ on. absurd (true≢false (sym on ∙ e)) }) (sinceEnabled past) f
 fine (completed c ∷ past) g = go (counterOf (inForce past) c) (fine past (g .1))
   where
-    same : All (Fine past) (since enables countedAt past) → All (Fine (completed c ∷ past)) (since enables countedAt past)
-    same f = all-map (λ x k. record { early = k .early; apart = k .apart }) (since enables countedAt past) f
+    same : All (Fine past) (sinceEnabled past) → All (Fine (completed c ∷ past)) (sinceEnabled past)
+    same f = all-map (λ x k. record { early = k .early; apart = k .apart }) (sinceEnabled past) f
 
-    go : (n : Option ℕ) → All (Fine past) (since enables countedAt past) → All (Fine (completed c ∷ past)) (andThen (found none (λ m. some (record { counter = m; command = c; before = past })) n) (since enables countedAt past))
+    go : (n : Option ℕ) → All (Fine past) (sinceEnabled past) → All (Fine (completed c ∷ past)) (andThen (found none (λ m. some (record { counter = m; command = c; before = past })) n) (sinceEnabled past))
     go none f = same f
     go (some n) f =
         (record { early = omega arith; apart = λ on. omega (arith, div-add-mod' (enabledTime past) (span past)) }, same f)
 fine (passed ms ∷ past) g = go (inForce past .enabled) refl (fine past (g .1))
   where
-    go : (b : Bool) → inForce past .enabled ≡ b → All (Fine past) (since enables countedAt past) → All (Fine (passed ms ∷ past)) (since enables countedAt past)
+    go :
+        (b : Bool) →
+        inForce past .enabled ≡ b →
+        All (Fine past) (sinceEnabled past) →
+        All (Fine (passed ms ∷ past)) (sinceEnabled past)
     go true q f =
         all-map
         (λ x k. record {
           early = rw q (omega (arith, k .early, later (enabledTime past) ms (span past) (omega (arith, enabled-positive past (g .1) q))));
           apart = λ on. rw q (omega (arith, k .apart on));
         })
-        (since enables countedAt past) f
+        (sinceEnabled past) f
     go false q f =
-        all-map (λ x k. record { early = rw q (k .early); apart = λ on. absurd (true≢false (sym on ∙ q)) }) (since enables countedAt past) f
+        all-map (λ x k. record { early = rw q (k .early); apart = λ on. absurd (true≢false (sym on ∙ q)) }) (sinceEnabled past) f
 fine (clockSet value ∷ past) g =
-    all-map (λ x k. record { early = k .early; apart = k .apart }) (since enables countedAt past) (fine past (g .1))
+    all-map (λ x k. record { early = k .early; apart = k .apart }) (sinceEnabled past) (fine past (g .1))
 fine (poweredUp ∷ past) g =
-    all-map (λ x k. record { early = k .early; apart = k .apart }) (since enables countedAt past) (fine past (g .1))
+    all-map (λ x k. record { early = k .early; apart = k .apart }) (sinceEnabled past) (fine past (g .1))
 fine (nothing ∷ past) g =
-    all-map (λ x k. record { early = k .early; apart = k .apart }) (since enables countedAt past) (fine past (g .1))
+    all-map (λ x k. record { early = k .early; apart = k .apart }) (sinceEnabled past) (fine past (g .1))
 
 pub last-load-all : (P : Counted → Type 0) (xs : List Counted) → All P xs → Some P (lastLoad xs)
 unfolding lastLoad
@@ -128,7 +141,13 @@ and-left false b e = e
 abbrev pub Here : Past → Counted → Type 0
 Here past x = time past - time (x .before) ≡ enabledTime past % span past - into x
 
-pub here : (past : Past) → inForce past .enabled ≡ true → (n : ℕ) (x : Counted) → activeFor past n x ≡ true → Fine past x → Here past x
+pub here :
+    (past : Past) →
+    inForce past .enabled ≡ true →
+    (n : ℕ) (x : Counted) →
+    activeFor past n x ≡ true →
+    Fine past x →
+    Here past x
 unfolding windowAt
 here past on n x t f =
     let w : windowAt (x .before) ≡ windowAt past = eqb-true (windowAt (x .before)) (windowAt past) (and-left _ _ t) in
@@ -142,7 +161,12 @@ abbrev pub preceding : ℕ → ℕ → Counted → Bool
 preceding w k x = eqb (windowAt (x .before) + 1) w && eqb (x .counter) k
 
 -- the record that facts describe, w the number of the active window, xs the completions counted since it was enabled
-abbrev pub described : Settings → (timer : ℕ) (host : Bool) (partial clock : ℕ) → DebugLog → (w : ℕ) (xs : List Counted) → Monitor
+abbrev pub described :
+    Settings →
+    (timer : ℕ) (host : Bool) (partial clock : ℕ) →
+    DebugLog →
+    (w : ℕ) (xs : List Counted) →
+    Monitor
 described settings timer host partial clock debug w xs =
     record {
       settings = settings;
@@ -160,6 +184,6 @@ pub as-described :
     (past : Past) →
     recordOf past ≡
     described (inForce past) (timerAt past) (hostAt past) (enabledTime past % 300000) (clockAt past) (debugAt past) (windowAt past)
-    (since enables countedAt past)
+    (sinceEnabled past)
 unfolding recordOf active static
 as-described past = refl

@@ -16,12 +16,11 @@ use Rattle.logpage.specs.Fields.{noSettings}
 use Rattle.logpage.specs.Page.{pageBytes}
 use Rattle.monitor.specs.Claims.{PageShowsFacts, lastAccepted, SettingsComeBack}
 use Rattle.monitor.specs.Facts.{inForce, from, factsOf, recordOf}
-use Rattle.monitor.specs.History.{Call, History, Bytes, OfBytes, Effect, Past, settingsIn, found, latest, refusalOf, ifAccepted, asked, pastOf, play}
-use Rattle.monitor.specs.Refusals.{eitherAbove, settingsRefusal}
+use Rattle.monitor.specs.History.{Bytes, settingsIn, found, latest, pastOf}
 use Rattle.monitor.specs.Report.{shown, pageOf, settingsOf}
 use Rattle.monitor.specs.Settings.{decoded, encoded, discard, enable}
 use Rattle.monitor.proofs.histories.Bounds.{Sound, sound-past, byte-at, latest-some}
-use Rattle.monitor.proofs.histories.Lists.{All, Some}
+use Rattle.monitor.proofs.histories.Lists.{Some}
 use Rattle.monitor.proofs.histories.Play.{played-as-facts}
 use Rattle.monitor.proofs.refusals.Laws.{Accepted, accepted}
 
@@ -106,6 +105,9 @@ settings-come-back h b =
     ap (λ m. encoded (m .settings)) (played-as-facts h) ∙
     by (latest settingsIn (pastOf h)) (latest-some Sound settingsIn (pastOf h) (sound-past h b))
   where
-    by : (o : Option (List ℕ)) → Some Sound o → encoded (found noSettings decoded o) ≡ found (replicate 4096 0) (λ s. set s 11 0) o
+    by :
+        (o : Option (List ℕ)) →
+        Some Sound o →
+        encoded (found noSettings decoded o) ≡ found (replicate 4096 0) (λ s. set s 11 0) o
     by none k = none-back
     by (some s) k = round-trip s (k .bytes) (k .accepted)

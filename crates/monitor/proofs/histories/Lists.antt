@@ -67,7 +67,12 @@ pub all-map : {P Q : Counted → Type 0} → ((x : Counted) → P x → Q x) →
 all-map f [] h = tt
 all-map f (x ∷ xs) h = (f x (h .0), all-map f xs (h .1))
 
-pub all-those : {P Q : Counted → Type 0} (t : Counted → Bool) → ((x : Counted) → t x ≡ true → P x → Q x) → (xs : List Counted) → All P xs → All Q (those t xs)
+pub all-those :
+    {P Q : Counted → Type 0} (t : Counted → Bool) →
+    ((x : Counted) → t x ≡ true → P x → Q x) →
+    (xs : List Counted) →
+    All P xs →
+    All Q (those t xs)
 unfolding those
 all-those t f [] h = tt
 all-those {P} {Q} t f (x ∷ xs) h = go (all-those t f xs (h .1)) (t x) refl
@@ -77,7 +82,12 @@ all-those {P} {Q} t f (x ∷ xs) h = go (all-those t f xs (h .1)) (t x) refl
     go rest false e = rest
 
 module _ (t : Counted → Bool) (P : Counted → Type 0) where
-  pub those-same : (s : Counted → Bool) → ((x : Counted) → P x → t x ≡ s x) → (xs : List Counted) → All P xs → those t xs ≡ those s xs
+  pub those-same :
+      (s : Counted → Bool) →
+      ((x : Counted) → P x → t x ≡ s x) →
+      (xs : List Counted) →
+      All P xs →
+      those t xs ≡ those s xs
   unfolding those
   those-same s f [] h = refl
   those-same s f (x ∷ xs) h = rw (f x (h .0), those-same s f xs (h .1))

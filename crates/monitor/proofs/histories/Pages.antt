@@ -7,9 +7,9 @@ use lib.ListN.{getD}
 use native.Mathlib.Nat.{zero-add}
 use Rattle.logpage.proofs.Apart.{page-apart}
 use Rattle.logpage.specs.Page.{pageBytes}
-use Rattle.logpage.specs.declared.Window.{Window}
 use Rattle.monitor.specs.Claims.{SameCounter, Agree, PagesAgree}
-use Rattle.monitor.specs.Facts.{inForce, timerAt, active, static, Counted, countOf, lastLoad, stampOf, latencyOf, unitsOf, each, windowFrom, debugAt, factsOf}
+use Rattle.monitor.specs.Facts.{active, static, Counted, countOf, lastLoad, stampOf, latencyOf, unitsOf, each}
+use Rattle.monitor.specs.Facts.{windowFrom, factsOf}
 use Rattle.monitor.specs.History.{History, pastOf}
 use Rattle.monitor.proofs.histories.Bounds.{facts-fit}
 use Rattle.monitor.proofs.histories.Given.{page-shows-facts}

@@ -11,7 +11,7 @@ use borrow.Author.Tests.{le-ltb, ltb-true, ltb-false, eqb-true, eqb-false}
 use Rattle.logpage.specs.Fields.{noSettings, emptyWindow, noDebugLog}
 use Rattle.monitor.specs.declared.record.Monitor.{Monitor}
 use Rattle.monitor.specs.Claims.{PlayedAsFacts, WindowEnds}
-use Rattle.monitor.specs.Facts.{inForce, sum, clockAt, hostAt, enables, threshold, enabledTime, windowAt, timerAt, Counted, countedAt, those, active, static, countOf, lastLoad, from, each, windowFrom, loadedOf, discards, triggered, first, logOf, debugAt, recordOf}
+use Rattle.monitor.specs.Facts.{inForce, sum, clockAt, hostAt, threshold, enabledTime, windowAt, timerAt, Counted, countedAt, those, active, static, countOf, lastLoad, from, each, windowFrom, loadedOf, discards, triggered, first, logOf, debugAt, recordOf, sinceEnabled}
 use Rattle.monitor.specs.History.{Call, settings, completion, elapsed, clock, powerUp, page, settingsBack, History, after, playFrom, play, Effect, configured, clockSet, poweredUp, nothing, passed, asked, refusalOf, ifAccepted, effectOf, Past, pastOf, found, latest, since}
 use Rattle.monitor.specs.Record.{newMonitor, afterSettings, afterElapsed, elapsedReply, afterClock, afterPowerUp}
 use Rattle.monitor.specs.Refusals.{settingsRefusal, fieldRefusal, elapsedRefusal, clockRefusal, eitherAbove, pageRefusal, settingsBackRefusal}
@@ -34,7 +34,7 @@ module _ (past : Past) (s : List ℕ) where
   threshold-after true e = rw e
   threshold-after false e = rw e
 
-  counted-after : (b : Bool) → decoded s .enabled ≡ b → since enables countedAt (configured s ∷ past) ≡ cond b [] (since enables countedAt past)
+  counted-after : (b : Bool) → decoded s .enabled ≡ b → sinceEnabled (configured s ∷ past) ≡ cond b [] (sinceEnabled past)
   unfolding since
   counted-after true e = rw e
   counted-after false e = rw e
@@ -55,14 +55,14 @@ module _ (past : Past) (s : List ℕ) where
       (t / (300000 * p))
       xs
 
-  facts-after : recordOf (configured s ∷ past) ≡ of-these (enabledTime (configured s ∷ past)) (threshold (configured s ∷ past)) (since enables countedAt (configured s ∷ past))
+  facts-after : recordOf (configured s ∷ past) ≡ of-these (enabledTime (configured s ∷ past)) (threshold (configured s ∷ past)) (sinceEnabled (configured s ∷ past))
   unfolding recordOf inForce clockAt hostAt timerAt windowAt active static latest since
   facts-after = rw debug-after
 
   emptied-or-kept :
       (b : Bool) →
       reset (recordOf past) (decoded s) (cond (eqb (discard s) 1) noDebugLog (debugAt past)) b ≡
-      of-these (cond b 0 (enabledTime past)) (cond b (decoded s .«timer_threshold») (threshold past)) (cond b [] (since enables countedAt past))
+      of-these (cond b 0 (enabledTime past)) (cond b (decoded s .«timer_threshold») (threshold past)) (cond b [] (sinceEnabled past))
   unfolding recordOf timerAt windowAt active static emptyWindow those lastLoad countOf from
   emptied-or-kept true = rw (zero-div (300000 * decoded s .«timer_threshold»), zero-mul (decoded s .«timer_threshold»))
   emptied-or-kept false = refl
@@ -80,7 +80,7 @@ unfolding afterClock clockRefusal recordOf inForce clockAt hostAt timerAt window
 clock-step past value h =
     let e : value ≡ min (value + 0) 281474976710655 = omega arith in
     rw (le-ltb 281474976710655 value h)
-    (ap (λ n. described (inForce past) (timerAt past) true (enabledTime past % 300000) n (debugAt past) (windowAt past) (since enables countedAt past)) e)
+    (ap (λ n. described (inForce past) (timerAt past) true (enabledTime past % 300000) n (debugAt past) (windowAt past) (sinceEnabled past)) e)
 
 power-up-step : (past : Past) → afterPowerUp (recordOf past) ≡ recordOf (poweredUp ∷ past)
 unfolding afterPowerUp recordOf inForce clockAt hostAt timerAt windowAt enabledTime threshold active static debugAt latest since sum
