@@ -1,4 +1,4 @@
--- What the page's bytes tell: where each stamp stands, and that equal pages show the same.
+-- The lengths of the page's parts, and where each stamp stands.
 use mathlib.Core.List.{List, _++_, append-assoc}
 use mathlib.Core.Path.{_≡_, _∙_}
 use Prim.Native.Nat.{ℕ, zero, suc, _+_, _*_, _-_, _<_, _≤_}
@@ -10,7 +10,7 @@ use lib.Seq.{take-at}
 use Rattle.endian.specs.Stores.{lowFirst}
 use Rattle.endian.proofs.Apart.{drop-past, part-of}
 use Rattle.endian.proofs.Runs.{length-low}
-use Rattle.logpage.specs.Block.{zeros, bucketBytes, buckets, downward, bits, stampPlace, latencyPlace, blockBytes}
+use Rattle.logpage.specs.Block.{zeros, bucketBytes, buckets, downward, bits, stampPlace, blockBytes}
 use Rattle.logpage.specs.Page.{headBytes, tailBytes, pageBytes}
 use Rattle.logpage.specs.declared.DebugLog.{DebugLog}
 use Rattle.logpage.specs.declared.Settings.{Settings}
@@ -76,51 +76,40 @@ downward-at width values (suc m) n h = by (ℕ-discrete n m) (downward-at width 
         let skip = drop-past (lowFirst width (getD values m 0)) (downward width values m) (width * (m - 1 - n)) width (length-low width (getD values m 0)) in
         rw (s, k, skip) (later (omega arith))
 
--- counter n's stamp and latency in a block
-module _ (w : Window) (n : ℕ) (h : n < 12) where
-  pub block-stamp : take 8 (drop (stampPlace n) (blockBytes w)) ≡ lowFirst 8 (getD (w .stamps) n 0)
-  unfolding blockBytes
-  block-stamp =
-      rw (append-assoc (buckets (w .counters) 4 ++ downward 8 (w .stamps) 12) (downward 2 (w .latencies) 12) (lowFirst 2 (bits (w .units))))
-      (part-of (buckets (w .counters) 4) (downward 8 (w .stamps) 12) _ 64 (8 * (11 - n)) 8 (length-buckets (w .counters) 4) (omega (arith, length-downward 8 (w .stamps) 12)) ∙ downward-at 8 (w .stamps) 12 n h)
+-- counter n's stamp in a block
+block-stamp :
+    (w : Window) (n : ℕ) →
+    n < 12 →
+    take 8 (drop (stampPlace n) (blockBytes w)) ≡ lowFirst 8 (getD (w .stamps) n 0)
+unfolding blockBytes
+block-stamp w n h =
+    let counts : List ℕ = buckets (w .counters) 4 in
+    let stamps : List ℕ = downward 8 (w .stamps) 12 in
+    let rest : List ℕ = downward 2 (w .latencies) 12 ++ lowFirst 2 (bits (w .units)) in
+    let whole : blockBytes w ≡ counts ++ stamps ++ rest = simp append-assoc in
+    let fits : 8 * (11 - n) + 8 ≤ length stamps = omega (arith, length-downward 8 (w .stamps) 12) in
+    rw whole (part-of counts stamps rest 64 (8 * (11 - n)) 8 (length-buckets (w .counters) 4) fits)
+    ∙ downward-at 8 (w .stamps) 12 n h
 
-  pub block-latency : take 2 (drop (latencyPlace n) (blockBytes w)) ≡ lowFirst 2 (getD (w .latencies) n 0)
-  unfolding blockBytes
-  block-latency =
-      let b : length (buckets (w .counters) 4 ++ downward 8 (w .stamps) 12) ≡ 160 = simp (length-append, length-buckets, length-downward) in
-      part-of (buckets (w .counters) 4 ++ downward 8 (w .stamps) 12) (downward 2 (w .latencies) 12) _ 160 (2 * (11 - n)) 2 b (omega (arith, length-downward 2 (w .latencies) 12)) ∙ downward-at 2 (w .latencies) 12 n h
+-- a part of the active window's block
+active-at :
+    (p : LogPage) (at k : ℕ) →
+    at + k ≤ 186 →
+    take k (drop (32 + at) (pageBytes p)) ≡ take k (drop at (blockBytes (p .«active_window»)))
+unfolding pageBytes
+active-at p at k h =
+    let head : List ℕ = headBytes (p .settings) (p .timer) in
+    let block : List ℕ = blockBytes (p .«active_window») in
+    let rest : List ℕ =
+    zeros 22 ++ blockBytes (p .«static_window») ++ zeros 22 ++ tailBytes (p .settings .trigger) (p .debug)
+    in
+    let whole : pageBytes p ≡ head ++ block ++ rest = simp append-assoc in
+    let fits : at + k ≤ length block = omega (arith, length-block (p .«active_window»)) in
+    rw whole (part-of head block rest 32 at k (length-head (p .settings) (p .timer)) fits)
 
--- a part of the active window's block, and of the static one's
-module _ (p : LogPage) (at k : ℕ) (h : at + k ≤ 186) where
-  pub active-at : take k (drop (32 + at) (pageBytes p)) ≡ take k (drop at (blockBytes (p .«active_window»)))
-  unfolding pageBytes
-  active-at =
-      let head : List ℕ = headBytes (p .settings) (p .timer) in
-      let active : List ℕ = blockBytes (p .«active_window») in
-      let rest : List ℕ = zeros 22 ++ blockBytes (p .«static_window») ++ zeros 22 ++ tailBytes (p .settings .trigger) (p .debug) in
-      let whole : pageBytes p ≡ head ++ active ++ rest = simp append-assoc in
-      rw whole
-      (part-of head active rest 32 at k (length-head (p .settings) (p .timer)) (omega (arith, length-block (p .«active_window»))))
-
-  pub static-at : take k (drop (240 + at) (pageBytes p)) ≡ take k (drop at (blockBytes (p .«static_window»)))
-  unfolding pageBytes
-  static-at =
-      let before : List ℕ = headBytes (p .settings) (p .timer) ++ blockBytes (p .«active_window») ++ zeros 22 in
-      let static : List ℕ = blockBytes (p .«static_window») in
-      let rest : List ℕ = zeros 22 ++ tailBytes (p .settings .trigger) (p .debug) in
-      let n : length before ≡ 240 = simp (length-append, length-head, length-block) in
-      let whole : pageBytes p ≡ before ++ static ++ rest = simp append-assoc in
-      rw whole (part-of before static rest 240 at k n (omega (arith, length-block (p .«static_window»))))
-
--- counter n's stamp and latency on the page, in the active window
+-- counter n's stamp on the page, in the active window
 pub stamp-at :
     (p : LogPage) (n : ℕ) →
     n < 12 →
     take 8 (drop (32 + stampPlace n) (pageBytes p)) ≡ lowFirst 8 (getD (p .«active_window» .stamps) n 0)
 stamp-at p n h = active-at p (stampPlace n) 8 (omega arith) ∙ block-stamp (p .«active_window») n h
-
-pub latency-at :
-    (p : LogPage) (n : ℕ) →
-    n < 12 →
-    take 2 (drop (32 + latencyPlace n) (pageBytes p)) ≡ lowFirst 2 (getD (p .«active_window» .latencies) n 0)
-latency-at p n h = active-at p (latencyPlace n) 2 (omega arith) ∙ block-latency (p .«active_window») n h

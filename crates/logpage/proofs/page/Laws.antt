@@ -1,4 +1,4 @@
--- Laws of the page: its lengths, and its stores one after the other.
+-- Laws of the page: its stores, one after the other.
 use mathlib.Core.List.{List, [], _∷_, _++_, append-assoc}
 use mathlib.Core.Path.{_≡_, refl, sym, _∙_, ap}
 use Prim.Native.Nat.{ℕ, _+_, _≤_}
