@@ -11,7 +11,7 @@ use Rattle.endian.specs.Stores.{lowFirst}
 use Rattle.endian.proofs.Apart.{drop-past, part-of}
 use Rattle.endian.proofs.Runs.{length-low}
 use Rattle.logpage.specs.Block.{zeros, bucketBytes, buckets, downward, bits, stampPlace, blockBytes}
-use Rattle.logpage.specs.Page.{headBytes, tailBytes, pageBytes}
+use Rattle.logpage.specs.Page.{headBytes, windowsBytes, tailBytes, pageBytes}
 use Rattle.logpage.specs.declared.DebugLog.{DebugLog}
 use Rattle.logpage.specs.declared.Settings.{Settings}
 use Rattle.logpage.specs.declared.Window.{Window}
@@ -31,7 +31,8 @@ length-buckets counters (suc b) =
 pub length-downward : (width : ℕ) (values : List ℕ) (n : ℕ) → length (downward width values n) ≡ width * n
 unfolding downward
 length-downward width values zero = omega arith
-length-downward width values (suc n) = rw (length-append, length-low, mul-suc) (omega (arith, length-downward width values n))
+length-downward width values (suc n) =
+    rw (length-append, length-low, mul-suc) (omega (arith, length-downward width values n))
 
 pub length-block : (w : Window) → length (blockBytes w) ≡ 186
 unfolding blockBytes
@@ -41,13 +42,17 @@ pub length-head : (s : Settings) (timer : ℕ) → length (headBytes s timer) �
 unfolding headBytes
 length-head s timer = simp (length-append, length-low)
 
+pub length-windows : (active static : Window) → length (windowsBytes active static) ≡ 416
+unfolding windowsBytes
+length-windows active static = simp (length-append, length-block)
+
 pub length-tail : (trigger : ℕ) (d : DebugLog) → length (tailBytes trigger d) ≡ 64
 unfolding tailBytes
 length-tail trigger d = simp (length-append, length-low)
 
 pub length-page : (p : LogPage) → length (pageBytes p) ≡ 512
 unfolding pageBytes
-length-page p = simp (length-append, length-head, length-block, length-tail)
+length-page p = simp (length-append, length-head, length-windows, length-tail)
 
 -- the value of counter n, of m values of one width
 pub downward-at :
@@ -58,23 +63,28 @@ unfolding downward
 downward-at width values zero n h = absurd (not-suc-le-zero h)
 downward-at width values (suc m) n h = by (ℕ-discrete n m) (downward-at width values m n)
   where
-    at : ℕ → List ℕ
-    at k = take width (drop (width * k) (lowFirst width (getD values m 0) ++ downward width values m))
+    first : List ℕ
+    first = lowFirst width (getD values m 0)
+
+    rest : List ℕ
+    rest = downward width values m
+
+    first-length : length first ≡ width
+    first-length = length-low width (getD values m 0)
 
     by :
         Dec (n ≡ m) →
-        (n < m → take width (drop (width * (m - 1 - n)) (downward width values m)) ≡ lowFirst width (getD values n 0)) →
-        at (suc m - 1 - n) ≡ lowFirst width (getD values n 0)
+        (n < m → take width (drop (width * (m - 1 - n)) rest) ≡ lowFirst width (getD values n 0)) →
+        take width (drop (width * (suc m - 1 - n)) (first ++ rest)) ≡ lowFirst width (getD values n 0)
     by (yes e) later =
         let z : suc m - 1 - n ≡ 0 = omega arith in
         let k : width * 0 ≡ 0 = omega arith in
         rw (z, k, e)
-        (take-at (lowFirst width (getD values m 0)) (downward width values m) width (length-low width (getD values m 0)))
+        (take-at first rest width first-length)
     by (no e) later =
         let s : suc m - 1 - n ≡ suc (m - 1 - n) = omega arith in
         let k : width * suc (m - 1 - n) ≡ width + width * (m - 1 - n) = omega (arith, mul-suc width (m - 1 - n)) in
-        let skip = drop-past (lowFirst width (getD values m 0)) (downward width values m) (width * (m - 1 - n)) width (length-low width (getD values m 0)) in
-        rw (s, k, skip) (later (omega arith))
+        rw (s, k, drop-past first rest (width * (m - 1 - n)) width first-length) (later (omega arith))
 
 -- counter n's stamp in a block
 block-stamp :
@@ -96,7 +106,7 @@ active-at :
     (p : LogPage) (at k : ℕ) →
     at + k ≤ 186 →
     take k (drop (32 + at) (pageBytes p)) ≡ take k (drop at (blockBytes (p .«active_window»)))
-unfolding pageBytes
+unfolding pageBytes windowsBytes
 active-at p at k h =
     let head : List ℕ = headBytes (p .settings) (p .timer) in
     let block : List ℕ = blockBytes (p .«active_window») in
