@@ -8,17 +8,17 @@ use native.Mathlib.Omega.{arith}
 use lib.Dec.{lit<}
 use lib.ListN.{length, getD, take, drop, length-append}
 use lib.Seq.{ext-getD}
-use Rattle.endian.specs.Stores.{lowFirst, fields}
+use Rattle.endian.specs.Stores.{fields}
 use Rattle.endian.proofs.Apart.{append-apart, low-apart, Fit, none, _▸_, fields-apart}
 use Rattle.logpage.specs.Block.{zeros, bit, bucketBytes, buckets, downward, bits, blockBytes}
-use Rattle.logpage.specs.Page.{headBytes, tailBytes, pageBytes}
+use Rattle.logpage.specs.Page.{headBytes, windowsBytes, tailBytes, pageBytes}
 use Rattle.logpage.specs.declared.DebugLog.{DebugLog}
 use Rattle.logpage.specs.declared.Settings.{Settings}
 use Rattle.logpage.specs.declared.Window.{Window}
 use Rattle.logpage.specs.declared.page.LogPage.{LogPage}
 use Rattle.logpage.proofs.block.Laws.{bucket-fields, bit-below, bits-fit}
 use Rattle.logpage.proofs.page.Laws.{headWidths, headValues, head-fields, tailWidths, tailValues, tail-fields}
-use Rattle.logpage.proofs.Places.{length-buckets, length-downward, length-block, length-head, downward-at}
+use Rattle.logpage.proofs.Places.{length-buckets, length-downward, length-block, length-head, length-windows, downward-at}
 
 -- what the code's types hold
 pub record FitsSettings (s : Settings) : Type 0 where
@@ -136,29 +136,29 @@ downward-apart width c d m m′ x y e =
     low-apart width (getD c n 0) (getD d n 0) (x n) (y n)
     (sym (downward-at width c 12 n h) ∙ ap (λ (bytes : List ℕ). take width (drop (width * (11 - n)) bytes)) e ∙ downward-at width d 12 n h))
 
+units-fit : (w : Window) → FitsWindow w → bits (w .units) < 65536
+units-fit w x = omega (arith, bits-fit (w .units) 0 (omega (arith, x .twelve-units)))
+
 window-apart : (w v : Window) → FitsWindow w → FitsWindow v → blockBytes w ≡ blockBytes v → w ≡ v
 unfolding blockBytes
 window-apart w v x y e =
-    let counts : Window → List ℕ = λ u. buckets (u .counters) 4 in
-    let stamps : Window → List ℕ = λ u. downward 8 (u .stamps) 12 in
-    let latencies : Window → List ℕ = λ u. downward 2 (u .latencies) 12 in
-    let n₁ : length (counts w) ≡ length (counts v) = simp length-buckets in
-    let n₂ : length (counts w ++ stamps w) ≡ length (counts v ++ stamps v) = simp (length-append, length-buckets, length-downward) in
-    let n₃ : length (counts w ++ stamps w ++ latencies w) ≡ length (counts v ++ stamps v ++ latencies v) = simp (length-append, length-buckets, length-downward) in
-    let r₃ = append-apart (counts w ++ stamps w ++ latencies w) (counts v ++ stamps v ++ latencies v) (lowFirst 2 (bits (w .units))) (lowFirst 2 (bits (v .units))) n₃ e in
-    let r₂ = append-apart (counts w ++ stamps w) (counts v ++ stamps v) (latencies w) (latencies v) n₂ (r₃ .0) in
-    let r₁ = append-apart (counts w) (counts v) (stamps w) (stamps v) n₁ (r₂ .0) in
-    let below : (u : Window) → FitsWindow u → bits (u .units) < 65536 = λ u f. omega (arith, bits-fit (u .units) 0 (omega (arith, f .twelve-units))) in
+    let to-64 : Window → List ℕ = λ u. buckets (u .counters) 4 in
+    let to-160 : Window → List ℕ = λ u. to-64 u ++ downward 8 (u .stamps) 12 in
+    let to-184 : Window → List ℕ = λ u. to-160 u ++ downward 2 (u .latencies) 12 in
+    let n₁ : length (to-64 w) ≡ length (to-64 v) = simp length-buckets in
+    let n₂ : length (to-160 w) ≡ length (to-160 v) = simp (length-append, length-buckets, length-downward) in
+    let n₃ : length (to-184 w) ≡ length (to-184 v) = simp (length-append, length-buckets, length-downward) in
+    let r₃ = append-apart (to-184 w) (to-184 v) _ _ n₃ e in
+    let r₂ = append-apart (to-160 w) (to-160 v) _ _ n₂ (r₃ .0) in
+    let r₁ = append-apart (to-64 w) (to-64 v) _ _ n₁ (r₂ .0) in
     let c : w .counters ≡ v .counters =
     ext-getD 0 (w .counters) (v .counters) (x .twelve-counters ∙ sym (y .twelve-counters))
-    (λ n l. buckets-apart (w .counters) (v .counters) (x .counters) (y .counters) 4 (r₁ .0) n (omega (arith, x .twelve-counters)))
+    (λ n l. buckets-apart _ _ (x .counters) (y .counters) 4 (r₁ .0) n (omega (arith, x .twelve-counters)))
     in
-    let s = downward-apart 8 (w .stamps) (v .stamps) (x .twelve-stamps) (y .twelve-stamps) (x .stamps) (y .stamps) (r₁ .1) in
-    let l = downward-apart 2 (w .latencies) (v .latencies) (x .twelve-latencies) (y .twelve-latencies) (x .latencies) (y .latencies) (r₂ .1) in
-    let u =
-    bits-apart (w .units) (v .units) (x .twelve-units ∙ sym (y .twelve-units))
-    (low-apart 2 (bits (w .units)) (bits (v .units)) (below w x) (below v y) (r₃ .1))
-    in
+    let s = downward-apart 8 _ _ (x .twelve-stamps) (y .twelve-stamps) (x .stamps) (y .stamps) (r₁ .1) in
+    let l = downward-apart 2 _ _ (x .twelve-latencies) (y .twelve-latencies) (x .latencies) (y .latencies) (r₂ .1) in
+    let m = low-apart 2 (bits (w .units)) (bits (v .units)) (units-fit w x) (units-fit v y) (r₃ .1) in
+    let u = bits-apart (w .units) (v .units) (x .twelve-units ∙ sym (y .twelve-units)) m in
     λ i. record { counters = c i; stamps = s i; latencies = l i; units = u i }
 
 four-values : (l : List ℕ) → length l ≡ 4 → l ≡ getD l 0 0 ∷ getD l 1 0 ∷ getD l 2 0 ∷ getD l 3 0 ∷ []
@@ -171,7 +171,8 @@ four-values (a ∷ b ∷ c ∷ d ∷ e ∷ l) n = absurd (omega arith)
 
 head-fit : (s : Settings) (timer : ℕ) → FitsSettings s → timer < 65536 → Fit headWidths (headValues s timer)
 head-fit s timer x h =
-    bit-fits (s .enabled) ▸ lit< tt ▸ h ▸ x .threshold ▸ x .thresholds 0 ▸ x .thresholds 1 ▸ x .thresholds 2 ▸ x .thresholds 3 ▸ x .mode ▸ x .minimum ▸ lit< tt ▸ none
+    let t = x .thresholds in
+    bit-fits (s .enabled) ▸ lit< tt ▸ h ▸ x .threshold ▸ t 0 ▸ t 1 ▸ t 2 ▸ t 3 ▸ x .mode ▸ x .minimum ▸ lit< tt ▸ none
 
 head-apart :
     (s t : Settings) (i j : ℕ) →
@@ -188,9 +189,23 @@ head-apart s t i j x y h k r e =
     (head-fields s i ∙ e ∙ sym (head-fields t j))
     in
     let one : (n : ℕ) → getD (headValues s i) n 0 ≡ getD (headValues t j) n 0 = λ n. ap (λ (l : List ℕ). getD l n 0) v in
-    let four = four-values (s .thresholds) (x .four) ∙ ap (λ (l : List ℕ). take 4 (drop 4 l)) v ∙ sym (four-values (t .thresholds) (y .four)) in
-    let b = bit-apart (s .enabled) (t .enabled) (one 0) in
-    (λ n. record { «timer_threshold» = one 3 n; mode = one 8 n; trigger = r n; thresholds = four n; «minimum_window» = one 9 n; enabled = b n }, one 2)
+    let four =
+    four-values (s .thresholds) (x .four)
+    ∙ ap (λ (l : List ℕ). take 4 (drop 4 l)) v
+    ∙ sym (four-values (t .thresholds) (y .four))
+    in
+    let b = bit-apart (s .enabled) (t .enabled) (one 0) in (
+      λ n.
+          record {
+            «timer_threshold» = one 3 n;
+            mode = one 8 n;
+            trigger = r n;
+            thresholds = four n;
+            «minimum_window» = one 9 n;
+            enabled = b n;
+          },
+      one 2,
+    )
 
 tail-fit : (trigger : ℕ) (d : DebugLog) → trigger < 65536 → FitsDebug d → Fit tailWidths (tailValues trigger d)
 tail-fit trigger d h x =
@@ -213,32 +228,35 @@ tail-apart i j c d h k x y e =
     let b = bit-apart (c .units) (d .units) (one 5) in
     (one 0, λ n. record { stamp = one 2 n; latency = one 1 n; source = one 4 n; units = b n })
 
+windows-apart :
+    (a b c d : Window) →
+    windowsBytes a b ≡ windowsBytes c d →
+    (blockBytes a ≡ blockBytes c) × (blockBytes b ≡ blockBytes d)
+unfolding windowsBytes
+windows-apart a b c d e =
+    let to-240 : Window → List ℕ = λ w. blockBytes w ++ zeros 22 in
+    let to-426 : Window → Window → List ℕ = λ w v. to-240 w ++ blockBytes v in
+    let n₁ : length (blockBytes a) ≡ length (blockBytes c) = simp length-block in
+    let n₂ : length (to-240 a) ≡ length (to-240 c) = simp (length-append, length-block) in
+    let n₃ : length (to-426 a b) ≡ length (to-426 c d) = simp (length-append, length-block) in
+    let r₃ = append-apart (to-426 a b) (to-426 c d) (zeros 22) (zeros 22) n₃ e in
+    let r₂ = append-apart (to-240 a) (to-240 c) (blockBytes b) (blockBytes d) n₂ (r₃ .0) in
+    let r₁ = append-apart (blockBytes a) (blockBytes c) (zeros 22) (zeros 22) n₁ (r₂ .0) in
+    (r₁ .0, r₂ .1)
+
 -- equal bytes, equal pages
 pub page-apart : (p q : LogPage) → Fits p → Fits q → pageBytes p ≡ pageBytes q → p ≡ q
 unfolding pageBytes
 page-apart p q x y e =
     let to-32 : LogPage → List ℕ = λ r. headBytes (r .settings) (r .timer) in
-    let to-218 : LogPage → List ℕ = λ r. to-32 r ++ blockBytes (r .«active_window») in
-    let to-240 : LogPage → List ℕ = λ r. to-218 r ++ zeros 22 in
-    let to-426 : LogPage → List ℕ = λ r. to-240 r ++ blockBytes (r .«static_window») in
-    let to-448 : LogPage → List ℕ = λ r. to-426 r ++ zeros 22 in
+    let to-448 : LogPage → List ℕ = λ r. to-32 r ++ windowsBytes (r .«active_window») (r .«static_window») in
     let n₁ : length (to-32 p) ≡ length (to-32 q) = simp length-head in
-    let n₂ : length (to-218 p) ≡ length (to-218 q) = simp (length-append, length-head, length-block) in
-    let n₃ : length (to-240 p) ≡ length (to-240 q) = simp (length-append, length-head, length-block) in
-    let n₄ : length (to-426 p) ≡ length (to-426 q) = simp (length-append, length-head, length-block) in
-    let n₅ : length (to-448 p) ≡ length (to-448 q) = simp (length-append, length-head, length-block) in
-    let r₅ =
-    append-apart (to-448 p) (to-448 q) (tailBytes (p .settings .trigger) (p .debug))
-    (tailBytes (q .settings .trigger) (q .debug))
-    n₅
-    e
-    in
-    let r₄ = append-apart (to-426 p) (to-426 q) (zeros 22) (zeros 22) n₄ (r₅ .0) in
-    let r₃ = append-apart (to-240 p) (to-240 q) (blockBytes (p .«static_window»)) (blockBytes (q .«static_window»)) n₃ (r₄ .0) in
-    let r₂ = append-apart (to-218 p) (to-218 q) (zeros 22) (zeros 22) n₂ (r₃ .0) in
-    let r₁ = append-apart (to-32 p) (to-32 q) (blockBytes (p .«active_window»)) (blockBytes (q .«active_window»)) n₁ (r₂ .0) in
-    let t = tail-apart (p .settings .trigger) (q .settings .trigger) (p .debug) (q .debug) (x .settings .trigger) (y .settings .trigger) (x .debug) (y .debug) (r₅ .1) in
-    let h = head-apart (p .settings) (q .settings) (p .timer) (q .timer) (x .settings) (y .settings) (x .timer) (y .timer) (t .0) (r₁ .0) in
-    let a = window-apart (p .«active_window») (q .«active_window») (x .active) (y .active) (r₁ .1) in
-    let s = window-apart (p .«static_window») (q .«static_window») (x .static) (y .static) (r₃ .1) in
+    let n₂ : length (to-448 p) ≡ length (to-448 q) = simp (length-append, length-head, length-windows) in
+    let r₂ = append-apart (to-448 p) (to-448 q) _ _ n₂ e in
+    let r₁ = append-apart (to-32 p) (to-32 q) _ _ n₁ (r₂ .0) in
+    let t = tail-apart _ _ _ _ (x .settings .trigger) (y .settings .trigger) (x .debug) (y .debug) (r₂ .1) in
+    let h = head-apart _ _ _ _ (x .settings) (y .settings) (x .timer) (y .timer) (t .0) (r₁ .0) in
+    let w = windows-apart _ _ _ _ (r₁ .1) in
+    let a = window-apart _ _ (x .active) (y .active) (w .0) in
+    let s = window-apart _ _ (x .static) (y .static) (w .1) in
     λ i. record { settings = h .0 i; timer = h .1 i; «active_window» = a i; «static_window» = s i; debug = t .1 i }

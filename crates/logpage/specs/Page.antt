@@ -6,6 +6,7 @@ use Rattle.endian.specs.Stores.{lowFirst}
 use Rattle.logpage.specs.Block.{zeros, bit, blockBytes}
 use Rattle.logpage.specs.declared.DebugLog.{DebugLog}
 use Rattle.logpage.specs.declared.Settings.{Settings}
+use Rattle.logpage.specs.declared.Window.{Window}
 use Rattle.logpage.specs.declared.page.LogPage.{LogPage}
 
 -- bytes 0 to 31
@@ -22,6 +23,14 @@ headBytes s timer =
     ++ lowFirst 2 (s .mode)  -- 10-11: stamping mode
     ++ lowFirst 1 (s .«minimum_window»)  -- 12: minimum window
     ++ zeros 19
+
+-- bytes 32 to 447
+unfoldable pub windowsBytes : (active static : Window) → List ℕ
+windowsBytes active static =
+    blockBytes active  -- 32-217: block of the running window
+    ++ zeros 22
+    ++ blockBytes static  -- 240-425: block of the last finished window
+    ++ zeros 22
 
 -- Log page version and GUID, from the table: source document 001, LMDATA-35 and LMDATA-36.
 abbrev pub version : ℕ
@@ -46,8 +55,5 @@ tailBytes trigger d =
 unfoldable pub pageBytes : LogPage → List ℕ
 pageBytes p =
     headBytes (p .settings) (p .timer)
-    ++ blockBytes (p .«active_window»)  -- 32-217: block of the running window
-    ++ zeros 22
-    ++ blockBytes (p .«static_window»)  -- 240-425: block of the last finished window
-    ++ zeros 22
+    ++ windowsBytes (p .«active_window») (p .«static_window»)
     ++ tailBytes (p .settings .trigger) (p .debug)

@@ -1,12 +1,10 @@
 // Log page C3h, written in the order of its bytes.
 ghost use mathlib.Core.Bool.{cond};
-ghost use mathlib.Core.List.{_++_};
 ghost use mathlib.Core.Path.{_≡_};
 ghost use lib.Dec.{eqb};
 ghost use lib.ListN.{length};
 ghost use lib.Seq.{sets};
-ghost use Rattle.logpage.specs.Block.{zeros, blockBytes};
-ghost use Rattle.logpage.specs.Page.{headBytes, tailBytes, pageBytes};
+ghost use Rattle.logpage.specs.Page.{headBytes, windowsBytes, tailBytes, pageBytes};
 use crate::DebugLog;
 use crate::Settings;
 use crate::Window;
@@ -56,7 +54,7 @@ fn write_head(page: &mut [u8], settings: Settings, timer: u16)
 // Bytes 32 to 447.
 fn write_windows(page: &mut [u8], active_window: Window, static_window: Window)
     requires { ⌜ length (now page) ≡ 512 ⌝ }
-    ensures { λ _. ⌜ now (page .exit) ≡ sets (now (page .entry)) 32 (blockBytes «active_window» ++ zeros 22 ++ blockBytes «static_window» ++ zeros 22) ⌝ }
+    ensures { λ _. ⌜ now (page .exit) ≡ sets (now (page .entry)) 32 (windowsBytes «active_window» «static_window») ⌝ }
 {
     block::write_block(&mut page[32..218], active_window);
     endian::put(page, 218, 22, 0);

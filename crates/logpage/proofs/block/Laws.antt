@@ -1,4 +1,4 @@
--- Laws of the block: its lengths, and its stores one after the other.
+-- Laws of the block: its stores, one after the other.
 use mathlib.Core.Bool.{Bool, true, false}
 use mathlib.Core.List.{List, [], _∷_, _++_}
 use mathlib.Core.Path.{_≡_, refl, sym, _∙_}
@@ -33,9 +33,8 @@ unfolding buckets
 buckets-more counters l cur next b e e′ =
     rw add-one (run-more l cur next (buckets counters b) _ 0 (16 * b) (omega (arith, length-buckets counters b)) e e′)
 
--- values of one width, the last counter's first
+-- values of one width, the last counter's first: the last of those that are left, and none left
 module _ (width : ℕ) (values : List ℕ) where
-  -- the value of the last of the counters that are left
   pub downward-more :
       (cur next goal : List ℕ) (n at place after : ℕ) →
       0 < n →

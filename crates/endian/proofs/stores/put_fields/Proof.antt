@@ -36,12 +36,14 @@ shared-slice-read-put c = search needs
 put-requires : tie.Need-put-requires Inv-loop μ-loop
 put-requires c κs =
     let at-loop = c .before .before .before .before in
-    omega (arith, total-more (at-loop .before .before .before .before .args .widths .now) (at-loop .loop .i) (search needs))
+    let widths = at-loop .before .before .before .before .args .widths .now in
+    omega (arith, total-more widths (at-loop .loop .i) (search needs))
 
 add-place : tie.Need-add-place Inv-loop μ-loop
 add-place c =
     let at-loop = c .before .before .before .before .before .before .before in
-    omega (arith, total-more (at-loop .before .before .before .before .args .widths .now) (at-loop .loop .i) (search needs))
+    let widths = at-loop .before .before .before .before .args .widths .now in
+    omega (arith, total-more widths (at-loop .loop .i) (search needs))
 
 add-i : tie.Need-add-i Inv-loop μ-loop
 add-i c = search needs
@@ -55,8 +57,13 @@ loop-again c =
     let start = at-loop .before .before .before .before in
     let widths = start .args .widths .now in
     let values = start .args .values .now in
-    let i = at-loop .loop .i in
-    (search needs, search needs, omega (arith, total-more widths i (search needs)), fields-more widths values i _ _ _ _ (search needs) (start .pre .1) (at-loop .loop .inv .3) (c .before .before .put .ensures))
+    let i = at-loop .loop .i in (
+      search needs,
+      search needs,
+      omega (arith, total-more widths i (search needs)),
+      fields-more widths values i _ _ _ _ (search needs) (start .pre .1) (at-loop .loop .inv .3)
+          (c .before .before .put .ensures),
+    )
 
 same-length : tie.Need-same-length Inv-loop μ-loop
 same-length c = search needs
@@ -64,7 +71,8 @@ same-length c = search needs
 returns : tie.Need-returns Inv-loop μ-loop
 returns c =
     let start = c .before .before .before .before .before in
-    fields-end (start .args .widths .now) (start .args .values .now) (c .before .loop .i) _ _ _ (search needs) (c .before .loop .inv .3)
+    fields-end (start .args .widths .now) (start .args .values .now) (c .before .loop .i) _ _ _ (search needs)
+    (c .before .loop .inv .3)
 
 pub put-fields-spec : {M : Type 1} → statement M
 put-fields-spec =

@@ -11,7 +11,8 @@ use Rattle.logpage.proofs.block.put_counters.Statement.{statement}
 use Rattle.logpage.proofs.block.put_counters.Tie as tie
 
 abbrev Inv-loop : tie.InvT-loop
-Inv-loop block₀ counters b₀ block b = (b ≤ 4) × (length block ≡ length block₀) × (block ≡ sets block₀ 0 (buckets counters b))
+Inv-loop block₀ counters b₀ block b =
+    (b ≤ 4) × (length block ≡ length block₀) × (block ≡ sets block₀ 0 (buckets counters b))
 
 abbrev μ-loop : tie.MeasureT-loop
 μ-loop block₀ counters b₀ block b = 4 - b
@@ -61,8 +62,12 @@ loop-less c = search needs
 
 loop-again : tie.Need-loop-again Inv-loop μ-loop
 loop-again c =
-    let at-loop = c .before .before .before .before .before in
-    (search needs, search needs, buckets-more (at-loop .before .before .args .t2) _ _ _ (at-loop .loop .b) (at-loop .loop .inv .2) (c .before .before .put-bucket .ensures))
+    let at-loop = c .before .before .before .before .before in (
+      search needs,
+      search needs,
+      buckets-more (at-loop .before .before .args .t2) _ _ _ (at-loop .loop .b) (at-loop .loop .inv .2)
+          (c .before .before .put-bucket .ensures),
+    )
 
 same-length : tie.Need-same-length Inv-loop μ-loop
 same-length c = search needs

@@ -45,8 +45,12 @@ loop-again c =
     let place = c .before .before .before .stamp-place in
     let n = at-loop .loop .n in
     let h = c .before .before .before .before .before .loop-test .taken in
-    let p : place .result ≡ 64 + 8 * (12 - n) = omega (arith, place .ensures) in
-    (search needs, search needs, downward-more 8 (at-loop .before .before .args .t2) _ _ _ n _ _ _ h p (omega arith) (at-loop .loop .inv .2) (c .before .before .put .ensures))
+    let p : place .result ≡ 64 + 8 * (12 - n) = omega (arith, place .ensures) in (
+      search needs,
+      search needs,
+      downward-more 8 (at-loop .before .before .args .t2) _ _ _ n _ _ _ h p (omega arith) (at-loop .loop .inv .2)
+          (c .before .before .put .ensures),
+    )
 
 same-length : tie.Need-same-length Inv-loop μ-loop
 same-length c = search needs

@@ -44,7 +44,7 @@ returns c =
     let c₂ = c₃ .before .before .before .before in
     let c₁ = c₂ .before .before .before .before in
     let start = c₁ .before .before .before in
-    windows-run (start .args .page .now) _ _ _ _ (start .args .active-window) (start .args .static-window) (start .pre)
+    windows-run (start .args .active-window) (start .args .static-window) (start .args .page .now) _ _ _ _ (start .pre)
     (c₁ .write-block .ensures)
     (c₂ .put .ensures)
     (c₃ .write-block2 .ensures)

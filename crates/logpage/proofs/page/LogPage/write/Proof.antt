@@ -26,7 +26,12 @@ returns c =
     let start = c₁ .before .before .before .before in
     let h = c₁ .before .before .if1 .taken in
     let e = eq-eqb _ 512 h in
-    (sym e, page-run (start .args .self) (start .args .page .now) _ _ _ h (c₁ .write-head .ensures) (c₂ .write-windows .ensures) (c₃ .write-tail .ensures) ∙ rw e)
+    let whole =
+    page-run (start .args .self) (start .args .page .now) _ _ _ h (c₁ .write-head .ensures)
+    (c₂ .write-windows .ensures)
+    (c₃ .write-tail .ensures)
+    in
+    (sym e, whole ∙ rw e)
 
 returns-2 : tie.Need-returns-2
 returns-2 c = let e = ne-eqb _ 512 (c .if1 .left) in (sym e, rw e)
