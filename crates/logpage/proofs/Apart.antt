@@ -10,13 +10,13 @@ use lib.ListN.{length, getD, take, drop, length-append}
 use lib.Seq.{ext-getD}
 use Rattle.endian.specs.Stores.{fields}
 use Rattle.endian.proofs.Apart.{append-apart, low-apart, Fit, none, _▸_, fields-apart}
-use Rattle.logpage.specs.Block.{zeros, bit, bucketBytes, buckets, downward, bits, blockBytes}
+use Rattle.logpage.specs.Block.{zeros, flag, bucketBytes, buckets, downward, bits, blockBytes}
 use Rattle.logpage.specs.Page.{headBytes, windowsBytes, tailBytes, pageBytes}
 use Rattle.logpage.specs.declared.DebugLog.{DebugLog}
 use Rattle.logpage.specs.declared.Settings.{Settings}
 use Rattle.logpage.specs.declared.Window.{Window}
 use Rattle.logpage.specs.declared.page.LogPage.{LogPage}
-use Rattle.logpage.proofs.block.Laws.{bucket-fields, bit-below, bits-fit}
+use Rattle.logpage.proofs.block.Laws.{bucket-fields, flag-below, bits-fit}
 use Rattle.logpage.proofs.page.Laws.{headWidths, headValues, head-fields, tailWidths, tailValues, tail-fields}
 use Rattle.logpage.proofs.Places.{length-buckets, length-downward, length-block, length-head, length-windows, downward-at}
 
@@ -50,14 +50,14 @@ pub record Fits (p : LogPage) : Type 0 where
   pub static : FitsWindow (p .«static_window»)
   pub debug : FitsDebug (p .debug)
 
-bit-fits : (b : Bool) → bit b < 256
-bit-fits b = omega (arith, bit-below b)
+flag-fits : (b : Bool) → flag b < 256
+flag-fits b = omega (arith, flag-below b)
 
-bit-apart : (a b : Bool) → bit a ≡ bit b → a ≡ b
-bit-apart true true e = refl
-bit-apart false false e = refl
-bit-apart true false e = absurd (omega arith)
-bit-apart false true e = absurd (omega arith)
+flag-apart : (a b : Bool) → flag a ≡ flag b → a ≡ b
+flag-apart true true e = refl
+flag-apart false false e = refl
+flag-apart true false e = absurd (omega arith)
+flag-apart false true e = absurd (omega arith)
 
 bits-apart : (a b : List Bool) → length a ≡ length b → bits a ≡ bits b → a ≡ b
 unfolding bits
@@ -65,8 +65,8 @@ bits-apart [] [] n e = refl
 bits-apart [] (y ∷ b) n e = absurd (omega arith)
 bits-apart (x ∷ a) [] n e = absurd (omega arith)
 bits-apart (x ∷ a) (y ∷ b) n e =
-    let p = bit-apart x y (omega (arith, bit-below x, bit-below y)) in
-    let q = bits-apart a b (omega arith) (omega (arith, bit-below x, bit-below y)) in
+    let p = flag-apart x y (omega (arith, flag-below x, flag-below y)) in
+    let q = bits-apart a b (omega arith) (omega (arith, flag-below x, flag-below y)) in
     cc
 
 -- three more counters
@@ -172,7 +172,7 @@ four-values (a ∷ b ∷ c ∷ d ∷ e ∷ l) n = absurd (omega arith)
 head-fit : (s : Settings) (timer : ℕ) → FitsSettings s → timer < 65536 → Fit headWidths (headValues s timer)
 head-fit s timer x h =
     let t = x .thresholds in
-    bit-fits (s .enabled) ▸ lit< tt ▸ h ▸ x .threshold ▸ t 0 ▸ t 1 ▸ t 2 ▸ t 3 ▸ x .mode ▸ x .minimum ▸ lit< tt ▸ none
+    flag-fits (s .enabled) ▸ lit< tt ▸ h ▸ x .threshold ▸ t 0 ▸ t 1 ▸ t 2 ▸ t 3 ▸ x .mode ▸ x .minimum ▸ lit< tt ▸ none
 
 head-apart :
     (s t : Settings) (i j : ℕ) →
@@ -194,7 +194,7 @@ head-apart s t i j x y h k r e =
     ∙ ap (λ (l : List ℕ). take 4 (drop 4 l)) v
     ∙ sym (four-values (t .thresholds) (y .four))
     in
-    let b = bit-apart (s .enabled) (t .enabled) (one 0) in (
+    let b = flag-apart (s .enabled) (t .enabled) (one 0) in (
       λ n.
           record {
             «timer_threshold» = one 3 n;
@@ -209,7 +209,7 @@ head-apart s t i j x y h k r e =
 
 tail-fit : (trigger : ℕ) (d : DebugLog) → trigger < 65536 → FitsDebug d → Fit tailWidths (tailValues trigger d)
 tail-fit trigger d h x =
-    h ▸ x .latency ▸ x .stamp ▸ lit< tt ▸ x .source ▸ bit-fits (d .units) ▸ lit< tt ▸ lit< tt ▸ lit< tt ▸ lit< tt ▸ none
+    h ▸ x .latency ▸ x .stamp ▸ lit< tt ▸ x .source ▸ flag-fits (d .units) ▸ lit< tt ▸ lit< tt ▸ lit< tt ▸ lit< tt ▸ none
 
 tail-apart :
     (i j : ℕ) (c d : DebugLog) →
@@ -225,7 +225,7 @@ tail-apart i j c d h k x y e =
     (tail-fields i c ∙ e ∙ sym (tail-fields j d))
     in
     let one : (n : ℕ) → getD (tailValues i c) n 0 ≡ getD (tailValues j d) n 0 = λ n. ap (λ (l : List ℕ). getD l n 0) v in
-    let b = bit-apart (c .units) (d .units) (one 5) in
+    let b = flag-apart (c .units) (d .units) (one 5) in
     (one 0, λ n. record { stamp = one 2 n; latency = one 1 n; source = one 4 n; units = b n })
 
 windows-apart :

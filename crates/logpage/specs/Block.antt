@@ -10,9 +10,9 @@ abbrev pub zeros : ℕ → List ℕ
 zeros n = replicate n 0
 
 -- a flag as one bit
-abbrev pub bit : Bool → ℕ
-bit false = 0
-bit true = 1
+abbrev pub flag : Bool → ℕ
+flag false = 0
+flag true = 1
 
 -- four zero bytes, Deallocate, Write, Read, 4 bytes each
 unfoldable pub bucketBytes : (deallocate write read : ℕ) → List ℕ
@@ -33,7 +33,7 @@ downward width values (suc n) = lowFirst width (getD values n 0) ++ downward wid
 -- bit n for pair n
 unfoldable pub bits : List Bool → ℕ
 bits [] = 0
-bits (b ∷ rest) = bit b + 2 * bits rest
+bits (b ∷ rest) = flag b + 2 * bits rest
 
 -- where counter n has its stamp, and its latency: from 64, and from 160, bucket 3 first
 abbrev pub stampPlace : ℕ → ℕ

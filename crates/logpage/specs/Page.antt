@@ -3,7 +3,7 @@ use mathlib.Core.List.{List, _++_}
 use Prim.Native.Nat.{ℕ}
 use lib.ListN.{getD}
 use Rattle.endian.specs.Stores.{lowFirst}
-use Rattle.logpage.specs.Block.{zeros, bit, blockBytes}
+use Rattle.logpage.specs.Block.{zeros, flag, blockBytes}
 use Rattle.logpage.specs.declared.DebugLog.{DebugLog}
 use Rattle.logpage.specs.declared.Settings.{Settings}
 use Rattle.logpage.specs.declared.Window.{Window}
@@ -12,7 +12,7 @@ use Rattle.logpage.specs.declared.page.LogPage.{LogPage}
 -- bytes 0 to 31
 unfoldable pub headBytes : Settings → (timer : ℕ) → List ℕ
 headBytes s timer =
-    lowFirst 1 (bit (s .enabled))  -- 0: bit 0 enabled; bits 1 to 7 zero
+    lowFirst 1 (flag (s .enabled))  -- 0: bit 0 enabled; bits 1 to 7 zero
     ++ zeros 1
     ++ lowFirst 2 timer  -- 2-3: steps
     ++ lowFirst 2 (s .«timer_threshold»)  -- 4-5: timer threshold
@@ -47,7 +47,7 @@ tailBytes trigger d =
     ++ lowFirst 8 (d .stamp)  -- 452-459: debug: stamp, all ones if no record
     ++ zeros 2  -- 460-461: debug pointer, zero
     ++ lowFirst 2 (d .source)  -- 462-463: debug: source, pair bit
-    ++ lowFirst 1 (bit (d .units))  -- 464: debug: clock mark
+    ++ lowFirst 1 (flag (d .units))  -- 464: debug: clock mark
     ++ zeros 29
     ++ lowFirst 2 version  -- 494-495
     ++ lowFirst 16 guid  -- 496-511

@@ -42,8 +42,9 @@ impl Settings {
     }
 }
 
-// What a window shows: for each of the twelve counters, by its number, the counter, the measured latency in ms, the
-// stamp units (set where the host had set the clock) and the latency stamp.
+// What a window shows, for each of the twelve counters (document 01: pairs) by its number: the counter (count), the
+// latency stamp, the measured latency in ms (shown latency), and the stamp units, set where the host had set the clock
+// (clock mark).
 #[repr(C)]
 pub struct Window {
     pub counters: [u32; 12],
@@ -83,7 +84,7 @@ impl Window {
     }
 }
 
-// The debug log's own fields. None is held where the stamp is unset.
+// The debug log's own fields (document 01: debug record). None is held where the stamp is unset.
 #[repr(C)]
 pub struct DebugLog {
     pub stamp: u64,

@@ -1,19 +1,40 @@
 -- What is claimed of every history. The proofs are in proofs/histories/.
 use mathlib.Core.Path.{_≡_}
-use mathlib.Core.Bool.{not}
 use mathlib.Core.List.{List, _∷_}
 use mathlib.Core.Logic.{_↔_}
-use mathlib.Core.Option.{none}
-use Prim.Native.Nat.{ℕ, _<_}
-use lib.Dec.{eqb}
+use mathlib.Core.Option.{Option}
+use Prim.Native.Nat.{ℕ, _*_, _%_, _<_}
+use lib.Dec.{ltb}
 use lib.ListN.{length, set, replicate}
 use Rattle.logpage.specs.Page.{pageBytes}
-use Rattle.monitor.specs.Facts.{inForce, windowAt, timerAt, active, static, Counted, countOf, lastLoad, stampOf, latencyOf, unitsOf, debugAt, factsOf, recordOf}
-use Rattle.monitor.specs.History.{elapsed, History, OfBytes, settingsIn, found, latest, pastOf, play}
-use Rattle.monitor.specs.Answers.{ended}
+use Rattle.monitor.specs.Facts.{inForce, clockAt, hostAt, timerThreshold, enabledTime, windowAt, timerAt}
+use Rattle.monitor.specs.Facts.{Counted, active, static, countOf, lastLoad, stampOf, latencyOf, unitsOf, each, windowFrom}
+use Rattle.monitor.specs.Facts.{debugAt, factsOf}
+use Rattle.monitor.specs.History.{elapsed, History, Past, OfBytes, settingsIn, found, latest, pastOf, play}
+use Rattle.monitor.specs.Answers.{ended, unlessRefused}
 use Rattle.monitor.specs.Record.{untouchedIf, elapsedReply}
+use Rattle.monitor.specs.declared.record.Monitor.{Monitor}
 use Rattle.monitor.specs.Refusals.{elapsedRefusal, pageRefusal, settingsBackRefusal}
 use Rattle.monitor.specs.Report.{pageOf, settingsOf}
+
+-- the time in the running window when a stamp was loaded: the record keeps it for the minimum window
+abbrev pub loadedOf : Option Counted → ℕ
+loadedOf load = found 0 (λ x. enabledTime (x .before) % (300000 * timerThreshold (x .before))) load
+
+-- the record that the facts describe
+unfoldable pub recordOf : Past → Monitor
+recordOf past =
+    record {
+      settings = inForce past;
+      timer = timerAt past;
+      host = hostAt past;
+      partial = enabledTime past % 300000;
+      clock = clockAt past;
+      loaded = each (λ n. loadedOf (lastLoad (active past n)));
+      debug = debugAt past;
+      «static_window» = windowFrom (static past);
+      «active_window» = windowFrom (active past);
+    }
 
 -- Playing a history by the calls' own definitions gives the record that its facts describe.
 abbrev pub PlayedAsFacts : Type 0
@@ -24,10 +45,10 @@ PlayedAsFacts = (h : History) → play h ≡ recordOf (pastOf h)
 abbrev pub WindowEnds : Type 0
 WindowEnds =
     (h : History) (ms : ℕ) →
-    elapsedRefusal ms ≡ none →
-    elapsedReply (play h) ms ≡ ended (not (eqb (windowAt (pastOf (elapsed ms ∷ h))) (windowAt (pastOf h))))
+    elapsedReply (play h) ms ≡
+    unlessRefused (elapsedRefusal ms) (ended (ltb (windowAt (pastOf h)) (windowAt (pastOf (elapsed ms ∷ h)))))
 
--- Demand 2, the page: after any history it is the one that the page table makes of the facts.
+-- Demands 2 and 3, each page: after any history it is the one that the page table makes of the facts.
 abbrev pub PageShowsFacts : Type 0
 PageShowsFacts = (h : History) → pageOf (play h) ≡ pageBytes (factsOf (pastOf h))
 
@@ -47,16 +68,16 @@ pub record SameCounter (xs ys : List Counted) : Type 0 where
 
 -- Two histories agree in the settings in force (discard aside), the steps, each count, stamp, shown latency and clock
 -- mark of both windows, and the debug record.
-pub record Agree (h k : History) : Type 0 where
-  pub settings : inForce (pastOf h) ≡ inForce (pastOf k)
-  pub timer : timerAt (pastOf h) ≡ timerAt (pastOf k)
-  pub active-window : (n : ℕ) → n < 12 → SameCounter (active (pastOf h) n) (active (pastOf k) n)
-  pub static-window : (n : ℕ) → n < 12 → SameCounter (static (pastOf h) n) (static (pastOf k) n)
-  pub debug : debugAt (pastOf h) ≡ debugAt (pastOf k)
+pub record Agree (a b : Past) : Type 0 where
+  pub settings : inForce a ≡ inForce b
+  pub timer : timerAt a ≡ timerAt b
+  pub active-window : (n : ℕ) → n < 12 → SameCounter (active a n) (active b n)
+  pub static-window : (n : ℕ) → n < 12 → SameCounter (static a n) (static b n)
+  pub debug : debugAt a ≡ debugAt b
 
 -- Demand 3: for every two histories the pages after them are equal byte for byte exactly when the two agree.
 abbrev pub PagesAgree : Type 0
-PagesAgree = (h k : History) → OfBytes h → OfBytes k → (pageOf (play h) ≡ pageOf (play k)) ↔ Agree h k
+PagesAgree = (h k : History) → OfBytes h → OfBytes k → (pageOf (play h) ≡ pageOf (play k)) ↔ Agree (pastOf h) (pastOf k)
 
 -- what `page` and `settings back` leave of a lent buffer, for every history that leads to the record
 unfoldable pub pageByFacts : History → List ℕ → List ℕ

@@ -6,36 +6,27 @@ use mathlib.Core.Option.{Option, none, some}
 use Prim.Native.Nat.{ℕ, _+_, _*_}
 use lib.ListN.{getD, take, drop}
 use Rattle.endian.specs.Stores.{lowFirst}
-use Rattle.logpage.specs.Fields.{emptyWindow, noDebugLog}
 use Rattle.logpage.specs.Page.{pageBytes}
 use Rattle.logpage.specs.declared.page.LogPage.{LogPage}
 use Rattle.monitor.specs.declared.commands.Completion.{Completion}
 use Rattle.monitor.specs.declared.record.Monitor.{Monitor}
 use Rattle.monitor.specs.Answers.{Reply, notCounted, counted, ended}
-use Rattle.monitor.specs.Record.{noLoads, afterCompletion, completionReply, afterElapsed, elapsedReply}
+use Rattle.monitor.specs.Settings.{encoded}
+use Rattle.monitor.specs.Record.{newMonitor, afterSettings, afterCompletion, completionReply, afterElapsed, elapsedReply}
 
--- a monitor with nothing counted yet, enabled with this timer threshold and these thresholds A to D
+-- a new monitor after settings with enable 1: this timer threshold and these thresholds A to D, all else zero
 abbrev pub enabledWith : ℕ → List ℕ → Monitor
 enabledWith threshold thresholds =
-    record {
-      settings =
-          record {
-            «timer_threshold» = threshold;
-            mode = 0;
-            trigger = 0;
-            thresholds = thresholds;
-            «minimum_window» = 0;
-            enabled = true;
-          };
-      timer = 0;
-      host = false;
-      partial = 0;
-      clock = 0;
-      loaded = noLoads;
-      debug = noDebugLog;
-      «static_window» = emptyWindow;
-      «active_window» = emptyWindow;
-    }
+    afterSettings newMonitor
+    (encoded
+    (record {
+      «timer_threshold» = threshold;
+      mode = 0;
+      trigger = 0;
+      thresholds = thresholds;
+      «minimum_window» = 0;
+      enabled = true;
+    }))
 
 -- a Read of so many µs
 abbrev pub read : ℕ → Completion
@@ -50,11 +41,11 @@ unfoldable pub elapsedReplies : Monitor → List ℕ → List Reply
 elapsedReplies m [] = []
 elapsedReplies m (ms ∷ later) = elapsedReply m ms ∷ elapsedReplies (afterElapsed m ms) later
 
--- a row of the table: a Read and its bucket, by these thresholds; a Read and what its bucket shows then, in ms; elapsed
+-- a row of the table: a Read and its bucket, by these thresholds; a Read and the measured latency of its bucket then; elapsed
 -- times by this timer threshold, and whether each ends a window; a bucket, a kind, and the page byte of their stamp
 pub data Edge : Type 0 where
   bucket : (thresholds : List ℕ) (us : ℕ) → Option ℕ → Edge
-  shows : (us bucket ms : ℕ) → Edge
+  measures : (us bucket ms : ℕ) → Edge
   ends : (threshold : ℕ) → List ℕ → List Bool → Edge
   stampAt : (bucket kind place : ℕ) → Edge
 
@@ -70,7 +61,7 @@ endedReplies (b ∷ later) = ended b ∷ endedReplies later
 -- what a row says of the rules
 abbrev pub Holds : Edge → Type 0
 Holds (bucket thresholds us b) = completionReply (enabledWith 1 thresholds) (read us) ≡ readReply b
-Holds (shows us b ms) =
+Holds (measures us b ms) =
     getD (afterCompletion (enabledWith 1 usual) (read us) .«active_window» .latencies) (3 * b) 0 ≡ ms
 Holds (ends threshold times replies) = elapsedReplies (enabledWith threshold usual) times ≡ endedReplies replies
 Holds (stampAt b k place) =
@@ -84,8 +75,8 @@ edges =
     ∷ bucket usual 10000 (some 1)  -- P4
     ∷ bucket usual 49999 (some 2)  -- P5
     ∷ bucket usual 50000 (some 3)  -- P6
-    ∷ shows 4294967295 3 65535  -- P7
-    ∷ shows 7999 0 7  -- P8
+    ∷ measures 4294967295 3 65535  -- P7
+    ∷ measures 7999 0 7  -- P8
     ∷ bucket (1 ∷ 1 ∷ 3 ∷ 9 ∷ []) 10000 (some 1)  -- P9
     ∷ ends 1 (299999 ∷ 1 ∷ []) (false ∷ true ∷ [])  -- P10
     ∷ stampAt 3 0 112  -- P11

@@ -11,10 +11,9 @@ use Rattle.logpage.specs.declared.DebugLog.{DebugLog}
 use Rattle.logpage.specs.declared.Settings.{Settings}
 use Rattle.logpage.specs.declared.Window.{Window}
 use Rattle.monitor.specs.declared.commands.Completion.{Completion}
-use Rattle.monitor.specs.declared.record.Monitor.{Monitor}
 use Rattle.monitor.specs.Commands.{counterOf, millisecondsOf}
 use Rattle.monitor.specs.Counting.{bit, debugLog}
-use Rattle.monitor.specs.History.{Effect, Past, ClockSetting, settingsIn, completionIn, elapsedIn, clockIn, found, latest, since}
+use Rattle.monitor.specs.History.{Effect, Past, ClockSetting, settingsIn, completionIn, elapsedIn, clockIn, found, latest, since, onlyIf}
 use Rattle.monitor.specs.Settings.{decoded, discard}
 
 -- In force: the settings last accepted before a place, else all zero.
@@ -26,57 +25,50 @@ unfoldable pub sum : List ℕ → ℕ
 sum [] = 0
 sum (x ∷ xs) = sum xs + x
 
--- no effect: what is found since then is found since the start
-abbrev pub never : Effect → Bool
-never e = false
+-- no effect is the start: what is found since it is found since the start
+abbrev pub start : Effect → Option ℕ
+start e = none
 
 -- Time: the sum of accepted elapsed times.
-abbrev pub elapsed : Effect → Past → Option ℕ
-elapsed e past = elapsedIn e
+abbrev pub elapsedAt : Effect → Past → Option ℕ
+elapsedAt e past = elapsedIn e
 
 unfoldable pub time : Past → ℕ
-time past = sum (since never elapsed past)
+time past = sum (since start elapsedAt past)
 
 -- Clock at a place: time since the latest accepted clock call, power-up or the start before it, plus the value if that
 -- was a clock call, held at 281,474,976,710,655; host-set if that was a clock call.
-abbrev pub setsClock : Effect → Bool
-setsClock e = found false (λ set. true) (clockIn e)
-
 unfoldable pub clockAt : Past → ℕ
 clockAt past =
-    min (found 0 (λ (set : ClockSetting). set .value) (latest clockIn past) + sum (since setsClock elapsed past))
+    min (found 0 (λ (set : ClockSetting). set .value) (latest clockIn past) + sum (since clockIn elapsedAt past))
     281474976710655
 
 unfoldable pub hostAt : Past → Bool
 hostAt past = found false (λ (set : ClockSetting). set .host) (latest clockIn past)
 
--- settings with enable 1, and their timer threshold
-abbrev pub enables : Effect → Bool
-enables e = found false (λ s. decoded s .enabled) (settingsIn e)
-
-abbrev pub enabledThreshold : Effect → Option ℕ
-enabledThreshold e =
-    found none (λ s. cond (decoded s .enabled) (some (decoded s .«timer_threshold»)) none) (settingsIn e)
+-- settings with enable 1
+abbrev pub enablingIn : Effect → Option Settings
+enablingIn e = found none (λ s. onlyIf (decoded s .enabled) (decoded s)) (settingsIn e)
 
 -- Take the settings with enable 1 last accepted, p their timer threshold.
-unfoldable pub threshold : Past → ℕ
-threshold past = found 0 (λ p. p) (latest enabledThreshold past)
+unfoldable pub timerThreshold : Past → ℕ
+timerThreshold past = found 0 (λ (s : Settings). s .«timer_threshold») (latest enablingIn past)
 
 -- t: the time while enabled from them to a later place
 abbrev pub whileEnabled : Effect → Past → Option ℕ
-whileEnabled e past = found none (λ ms. cond (inForce past .enabled) (some ms) none) (elapsedIn e)
+whileEnabled e past = found none (onlyIf (inForce past .enabled)) (elapsedIn e)
 
 unfoldable pub enabledTime : Past → ℕ
-enabledTime past = sum (since enables whileEnabled past)
+enabledTime past = sum (since enablingIn whileEnabled past)
 
 -- Enabled completions after them are in window t ÷ (300,000 × p), rounded down. At the history's end this number n is
--- the running window's.
+-- the running window's. Without such settings t and p are 0, and so is t ÷ 0.
 unfoldable pub windowAt : Past → ℕ
-windowAt past = enabledTime past / (300000 * threshold past)
+windowAt past = enabledTime past / (300000 * timerThreshold past)
 
 -- Steps are t ÷ 300,000, rounded down, less n × p, or 0 without such settings.
 unfoldable pub timerAt : Past → ℕ
-timerAt past = enabledTime past / 300000 - windowAt past * threshold past
+timerAt past = enabledTime past / 300000 - windowAt past * timerThreshold past
 
 -- A counted completion, with its counter and its place. Whether a completion is enabled, and its pair, mode, minimum
 -- window and trigger bit, go by those in force at its own place, whatever is accepted later.
@@ -90,14 +82,15 @@ countedAt e past =
     found none (λ c. found none (λ n. some (record { counter = n; command = c; before = past })) (counterOf (inForce past) c))
     (completionIn e)
 
--- the completions counted since those settings, the newest first
+-- the completions counted since those settings, the newest first: at each of their places those settings are the last
+-- accepted with enable 1 too
 abbrev pub sinceEnabled : Past → List Counted
-sinceEnabled past = since enables countedAt past
+sinceEnabled past = since enablingIn countedAt past
 
 -- those of a list that pass a test
-unfoldable pub those : (Counted → Bool) → List Counted → List Counted
-those test [] = []
-those test (x ∷ xs) = cond (test x) (x ∷ those test xs) (those test xs)
+unfoldable pub filter : (Counted → Bool) → List Counted → List Counted
+filter test [] = []
+filter test (x ∷ xs) = cond (test x) (x ∷ filter test xs) (filter test xs)
 
 -- the counted completions of one counter in the running window, and in the last finished one
 abbrev pub activeFor : Past → ℕ → Counted → Bool
@@ -107,10 +100,10 @@ abbrev pub staticFor : Past → ℕ → Counted → Bool
 staticFor past n x = eqb (windowAt (x .before) + 1) (windowAt past) && eqb (x .counter) n
 
 unfoldable pub active : Past → ℕ → List Counted
-active past n = those (activeFor past n) (sinceEnabled past)
+active past n = filter (activeFor past n) (sinceEnabled past)
 
 unfoldable pub static : Past → ℕ → List Counted
-static past n = those (staticFor past n) (sinceEnabled past)
+static past n = filter (staticFor past n) (sinceEnabled past)
 
 -- Count: the number of the pair's counted completions in the window, held at 4,294,967,295.
 unfoldable pub countOf : List Counted → ℕ
@@ -162,44 +155,25 @@ windowFrom completions =
 
 -- Debug record: ms, clock, mark and pair bit of the first counted completion with its trigger bit 1 since discard 1 was
 -- last accepted, or the start; else none.
-abbrev pub discards : Effect → Bool
-discards e = found false (λ s. eqb (discard s) 1) (settingsIn e)
+abbrev pub discardIn : Effect → Option (List ℕ)
+discardIn e = found none (λ s. onlyIf (eqb (discard s) 1) s) (settingsIn e)
 
 abbrev pub triggered : Counted → Bool
 triggered x = bit (inForce (x .before) .trigger) (x .counter)
 
-abbrev pub orFirst : Counted → Option Counted → Option Counted
-orFirst x none = some x
-orFirst x (some first) = some first
+abbrev pub orEarliest : Counted → Option Counted → Option Counted
+orEarliest x none = some x
+orEarliest x (some y) = some y
 
-unfoldable pub first : List Counted → Option Counted
-first [] = none
-first (x ∷ earlier) = orFirst x (first earlier)
+unfoldable pub earliest : List Counted → Option Counted
+earliest [] = none
+earliest (x ∷ earlier) = orEarliest x (earliest earlier)
 
 abbrev pub logOf : Counted → DebugLog
 logOf x = debugLog (x .counter) (clockAt (x .before)) (millisecondsOf (x .command)) (hostAt (x .before))
 
 unfoldable pub debugAt : Past → DebugLog
-debugAt past = found noDebugLog logOf (first (those triggered (since discards countedAt past)))
-
--- the time in the running window when a stamp was loaded: the record keeps it for the minimum window
-abbrev pub loadedOf : Option Counted → ℕ
-loadedOf load = found 0 (λ x. enabledTime (x .before) % (300000 * threshold (x .before))) load
-
--- the record that the facts describe
-unfoldable pub recordOf : Past → Monitor
-recordOf past =
-    record {
-      settings = inForce past;
-      timer = timerAt past;
-      host = hostAt past;
-      partial = enabledTime past % 300000;
-      clock = clockAt past;
-      loaded = each (λ n. loadedOf (lastLoad (active past n)));
-      debug = debugAt past;
-      «static_window» = windowFrom (static past);
-      «active_window» = windowFrom (active past);
-    }
+debugAt past = found noDebugLog logOf (earliest (filter triggered (since discardIn countedAt past)))
 
 -- what the page shows of the facts
 unfoldable pub factsOf : Past → LogPage

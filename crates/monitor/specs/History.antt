@@ -22,24 +22,6 @@ pub data Call : Type 0 where
 abbrev pub History : Type 0
 History = List Call
 
--- the settings of a history are bytes
-abbrev pub Bytes : List ℕ → Type 0
-Bytes [] = Unit {0}
-Bytes (b ∷ bs) = (b < 256) × Bytes bs
-
-abbrev pub BytesIn : Call → Type 0
-BytesIn (settings s) = Bytes s
-BytesIn (completion c) = Unit {0}
-BytesIn (elapsed ms) = Unit {0}
-BytesIn (clock value) = Unit {0}
-BytesIn powerUp = Unit {0}
-BytesIn (page length) = Unit {0}
-BytesIn (settingsBack length) = Unit {0}
-
-abbrev pub OfBytes : History → Type 0
-OfBytes [] = Unit {0}
-OfBytes (c ∷ h) = BytesIn c × OfBytes h
-
 -- what a call leaves of the record, by the call's own definition; page and settings back only read
 abbrev pub after : Call → Monitor → Monitor
 after (settings s) m = afterSettings m s
@@ -140,6 +122,10 @@ clockIn (clockSet value) = some (record { value = value; host = true })
 clockIn poweredUp = some (record { value = 0; host = false })
 clockIn nothing = none
 
+-- something, if a test passes
+abbrev pub onlyIf : {A : Type 0} → Bool → A → Option A
+onlyIf test x = cond test (some x) none
+
 -- f of what is there, else a default
 abbrev pub found : {A B : Type 0} → B → (A → B) → Option A → B
 found default f none = default
@@ -154,11 +140,24 @@ unfoldable pub latest : {A : Type 0} → (Effect → Option A) → Past → Opti
 latest f [] = none
 latest f (e ∷ past) = orElse (f e) (latest f past)
 
--- what f finds at each place since the latest effect that `start` names, the newest first
+-- what f finds at each place since the latest where `start` finds anything, the newest first
 abbrev pub andThen : {A : Type 0} → Option A → List A → List A
 andThen none earlier = earlier
 andThen (some x) earlier = x ∷ earlier
 
-unfoldable pub since : {A : Type 0} → (Effect → Bool) → (Effect → Past → Option A) → Past → List A
+abbrev pub unlessFound : {A B : Type 0} → Option B → List A → List A
+unlessFound none xs = xs
+unlessFound (some x) xs = []
+
+unfoldable pub since : {A B : Type 0} → (Effect → Option B) → (Effect → Past → Option A) → Past → List A
 since start f [] = []
-since start f (e ∷ past) = cond (start e) [] (andThen (f e past) (since start f past))
+since start f (e ∷ past) = unlessFound (start e) (andThen (f e past) (since start f past))
+
+-- the settings of a history are bytes
+abbrev pub Bytes : List ℕ → Type 0
+Bytes [] = Unit {0}
+Bytes (b ∷ bs) = (b < 256) × Bytes bs
+
+abbrev pub OfBytes : History → Type 0
+OfBytes [] = Unit {0}
+OfBytes (c ∷ h) = Bytes (found [] (λ s. s) (settingsIn (asked c))) × OfBytes h

@@ -141,8 +141,8 @@ unfoldable pub elapsedReply : Monitor → ℕ → Reply
 elapsedReply m ms = unlessRefused (elapsedRefusal ms) (ended (tickedBy m ms .expired))
 
 -- the record with another clock; the time since a stamp's load stays
-abbrev clockSet : Monitor → ℕ → Bool → Monitor
-clockSet m value host =
+abbrev withClock : Monitor → ℕ → Bool → Monitor
+withClock m value host =
     record {
       settings = m .settings;
       clock = value;
@@ -157,11 +157,11 @@ clockSet m value host =
 
 -- Setting the clock takes 64 bits, stores them and makes the clock host-set.
 unfoldable pub afterClock : Monitor → ℕ → Monitor
-afterClock m value = untouchedIf (clockRefusal value) m (clockSet m value true)
+afterClock m value = untouchedIf (clockRefusal value) m (withClock m value true)
 
 unfoldable pub clockReply : ℕ → Reply
 clockReply value = unlessRefused (clockRefusal value) done
 
 -- Power-up sets the clock to 0 and not host-set, and keeps all else.
 unfoldable pub afterPowerUp : Monitor → Monitor
-afterPowerUp m = clockSet m 0 false
+afterPowerUp m = withClock m 0 false

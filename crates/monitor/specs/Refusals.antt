@@ -1,4 +1,4 @@
--- Where a call is turned away: document 01's table, row by row.
+-- Where a call is turned away: rows 1 to 10 of document 01's table; 11 and 12 stand with the event files.
 use Prim.Native.Nat.{ℕ}
 use mathlib.Core.Bool.{Bool, true, false, not, _||_}
 use mathlib.Core.List.{List}

@@ -11,8 +11,8 @@ use Rattle.monitor.specs.Refusals.{pageRefusal, settingsBackRefusal}
 use Rattle.monitor.specs.Settings.{encoded}
 
 -- what the page shows of a record
-abbrev pub shown : Monitor → LogPage
-shown m =
+abbrev pub fieldsOf : Monitor → LogPage
+fieldsOf m =
     record {
       settings = m .settings;
       timer = m .timer;
@@ -23,7 +23,7 @@ shown m =
 
 -- the page of a record
 unfoldable pub pageOf : Monitor → List ℕ
-pageOf m = pageBytes (shown m)
+pageOf m = pageBytes (fieldsOf m)
 
 unfoldable pub afterPage : Monitor → List ℕ → List ℕ
 afterPage m buffer = untouchedIf (pageRefusal (length buffer)) buffer (pageOf m)

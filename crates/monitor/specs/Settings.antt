@@ -5,7 +5,7 @@ use lib.Dec.{eqb}
 use lib.ListN.{getD}
 use Rattle.endian.specs.Bytes.{word}
 use Rattle.endian.specs.Stores.{lowFirst}
-use Rattle.logpage.specs.Block.{zeros, bit}
+use Rattle.logpage.specs.Block.{zeros, flag}
 use Rattle.logpage.specs.declared.Settings.{Settings}
 
 -- the byte at a place
@@ -48,5 +48,5 @@ encoded s =
     ++ lowFirst 1 (s .«minimum_window»)  -- 8
     ++ lowFirst 2 (s .trigger)  -- 9-10
     ++ zeros 1  -- 11
-    ++ lowFirst 1 (bit (s .enabled))  -- 12
+    ++ lowFirst 1 (flag (s .enabled))  -- 12
     ++ zeros 4083

@@ -23,14 +23,14 @@ impl Monitor {
         let active_window = self.active_window;
         let static_window = self.static_window;
         let debug = self.debug;
-        let shown = LogPage {
+        let fields = LogPage {
             settings,
             timer,
             active_window,
             static_window,
             debug,
         };
-        if shown.write(page) {
+        if fields.write(page) {
             Answer::Done
         } else {
             Answer::Refused(refusals::PAGE_LENGTH)

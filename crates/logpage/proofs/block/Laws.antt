@@ -10,7 +10,7 @@ use lib.ListN.{length, getD, drop, drop-of-length-le, length-append, length-drop
 use lib.Seq.{sets, drop-cons}
 use Rattle.endian.specs.Stores.{lowFirst, fields}
 use Rattle.endian.proofs.Runs.{length-low, run-more, run-left, sets-whole}
-use Rattle.logpage.specs.Block.{bit, bucketBytes, buckets, downward, bits, blockBytes}
+use Rattle.logpage.specs.Block.{flag, bucketBytes, buckets, downward, bits, blockBytes}
 use Rattle.logpage.specs.declared.Window.{Window}
 use Rattle.logpage.proofs.Places.{length-buckets, length-downward, length-block}
 
@@ -70,16 +70,16 @@ pub bits-more :
     0 < n →
     n ≤ length units →
     r ≡ bits (drop n units) →
-    2 * r + bit (getD units (n - 1) false) ≡ bits (drop (n - 1) units)
+    2 * r + flag (getD units (n - 1) false) ≡ bits (drop (n - 1) units)
 unfolding bits
 bits-more units zero r h k e = absurd (not-suc-le-zero h)
 bits-more units (suc n) r h k e =
     let m : suc n - 1 ≡ n = omega arith in
     rw (m, drop-cons units n false k, e) (omega arith)
 
-pub bit-below : (b : Bool) → bit b < 2
-bit-below true = omega arith
-bit-below false = omega arith
+pub flag-below : (b : Bool) → flag b < 2
+flag-below true = omega arith
+flag-below false = omega arith
 
 bits-below : (units : List Bool) (n : ℕ) → length units ≤ n → bits units < 2 ^ n
 unfolding bits

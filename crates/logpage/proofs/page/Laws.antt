@@ -8,7 +8,7 @@ use lib.ListN.{length, getD, length-append}
 use lib.Seq.{sets, sets-eq, length-sets, drop-drop}
 use Rattle.endian.specs.Stores.{lowFirst, fields}
 use Rattle.endian.proofs.Runs.{low-zeros, run-more, sets-whole}
-use Rattle.logpage.specs.Block.{zeros, bit, blockBytes}
+use Rattle.logpage.specs.Block.{zeros, flag, blockBytes}
 use Rattle.logpage.specs.Page.{headBytes, windowsBytes, tailBytes, pageBytes}
 use Rattle.logpage.specs.declared.DebugLog.{DebugLog}
 use Rattle.logpage.specs.declared.Settings.{Settings}
@@ -23,7 +23,7 @@ headWidths = 1 ∷ 1 ∷ 2 ∷ 2 ∷ 1 ∷ 1 ∷ 1 ∷ 1 ∷ 2 ∷ 1 ∷ 19 ∷ 
 abbrev pub headValues : Settings → ℕ → List ℕ
 headValues s timer =
     let threshold : ℕ → ℕ = λ n. getD (s .thresholds) n 0 in
-    bit (s .enabled)
+    flag (s .enabled)
     ∷ 0
     ∷ timer
     ∷ s .«timer_threshold»
@@ -50,7 +50,7 @@ tailValues trigger d =
     ∷ d .stamp
     ∷ 0
     ∷ d .source
-    ∷ bit (d .units)
+    ∷ flag (d .units)
     ∷ 0
     ∷ 0x0004
     ∷ 0x9C6C84D08CC07A92

@@ -8,16 +8,17 @@ use native.Mathlib.Decide.{decLt}
 use native.Mathlib.Omega.{arith}
 use lib.ListN.{getD, length}
 use lib.Pow.{pow-lt}
+use Rattle.logpage.specs.declared.Settings.{Settings}
 use Rattle.logpage.proofs.Apart.{FitsSettings, FitsWindow, FitsDebug, Fits}
 use Rattle.logpage.specs.Fields.{noSettings, noDebugLog}
 use Rattle.monitor.specs.declared.commands.Completion.{Completion}
 use Rattle.monitor.specs.Commands.{counterOf, millisecondsOf}
-use Rattle.monitor.specs.Facts.{inForce, sum, enables, enabledThreshold, threshold, enabledTime, whileEnabled}
-use Rattle.monitor.specs.Facts.{windowAt, timerAt, Counted, countedAt, those, countOf, lastLoad, stampOf}
-use Rattle.monitor.specs.Facts.{latencyOf, triggered, discards, orFirst, first, logOf, debugAt, active, static}
+use Rattle.monitor.specs.Facts.{inForce, sum, enablingIn, enablingIn, timerThreshold, enabledTime, whileEnabled}
+use Rattle.monitor.specs.Facts.{windowAt, timerAt, Counted, countedAt, filter, countOf, lastLoad, stampOf}
+use Rattle.monitor.specs.Facts.{latencyOf, triggered, discardIn, orEarliest, earliest, logOf, debugAt, active, static}
 use Rattle.monitor.specs.Facts.{from, windowFrom, factsOf}
-use Rattle.monitor.specs.History.{Call, settings, completion, elapsed, clock, powerUp, page, settingsBack}
-use Rattle.monitor.specs.History.{History, Bytes, BytesIn, OfBytes, Effect, configured, completed, passed}
+use Rattle.monitor.specs.History.{asked, Call, settings, completion, elapsed, clock, powerUp, page, settingsBack, unlessFound, onlyIf}
+use Rattle.monitor.specs.History.{History, Bytes, OfBytes, Effect, configured, completed, passed}
 use Rattle.monitor.specs.History.{clockSet, poweredUp, nothing, ifAccepted, effectOf, Past, pastOf, settingsIn}
 use Rattle.monitor.specs.History.{completionIn, found, orElse, latest, andThen, since}
 use Rattle.monitor.specs.Refusals.{settingsRefusal, elapsedRefusal, clockRefusal, pageRefusal}
@@ -42,22 +43,22 @@ module _ {A : Type 0} (P : A → Type 0) where
       by (some x) k earlier = k
 
   pub since-all :
-      (start : Effect → Bool) (f : Effect → Past → Option A) →
+      {B : Type 0} (start : Effect → Option B) (f : Effect → Past → Option A) →
       ((e : Effect) (past : Past) → Some P (f e past)) →
       (past : Past) →
       All P (since start f past)
   unfolding since
   since-all start f k [] = tt
-  since-all start f k (e ∷ past) = by (start e) (f e past) (k e past) (since-all start f k past)
+  since-all {B = B} start f k (e ∷ past) = by (start e) (f e past) (k e past) (since-all start f k past)
     where
       by :
-          (b : Bool) (o : Option A) →
+          (b : Option B) (o : Option A) →
           Some P o →
           All P (since start f past) →
-          All P (cond b [] (andThen o (since start f past)))
-      by true o q earlier = tt
-      by false none q earlier = earlier
-      by false (some x) q earlier = (q, earlier)
+          All P (unlessFound b (andThen o (since start f past)))
+      by (some y) o q earlier = tt
+      by none none q earlier = earlier
+      by none (some x) q earlier = (q, earlier)
 
 -- settings made of bytes
 pub byte-at : (s : List ℕ) → Bytes s → (i : ℕ) → getD s i 0 < 256
@@ -101,7 +102,7 @@ none-in : (r : Option ℕ) (e : Effect) → Some Sound (settingsIn e) → Some S
 none-in none e k = k
 none-in (some n) e k = tt
 
-sound-call : (c : Call) → BytesIn c → Some Sound (settingsIn (effectOf c))
+sound-call : (c : Call) → Bytes (found [] (λ s. s) (settingsIn (asked c))) → Some Sound (settingsIn (effectOf c))
 sound-call (settings s) b = by (settingsRefusal s) refl
   where
     by : (r : Option ℕ) → settingsRefusal s ≡ r → Some Sound (settingsIn (ifAccepted r (configured s)))
@@ -127,44 +128,40 @@ module _ (past : Past) (sound : SoundPast past) where
       by none k = none-fit
       by (some s) k = settings-of-bytes s (k .bytes)
 
-  threshold-below : threshold past < 65536
-  unfolding threshold
-  threshold-below = by (latest enabledThreshold past) (latest-some (λ p. p < 65536) enabledThreshold past (each-below past sound))
+  threshold-below : timerThreshold past < 65536
+  unfolding timerThreshold
+  threshold-below = by (latest enablingIn past) (latest-some FitsSettings enablingIn past (each-fits past sound))
     where
-      of-settings :
-          (s : List ℕ) →
-          Sound s →
-          (b : Bool) →
-          Some (λ p. p < 65536) (cond b (some (decoded s .«timer_threshold»)) none)
-      of-settings s k true = settings-of-bytes s (k .bytes) .threshold
+      of-settings : (s : List ℕ) → Sound s → (b : Bool) → Some FitsSettings (onlyIf b (decoded s))
+      of-settings s k true = settings-of-bytes s (k .bytes)
       of-settings s k false = tt
 
       of-effect :
           (o : Option (List ℕ)) →
           Some Sound o →
-          Some (λ p. p < 65536) (found none (λ s. cond (decoded s .enabled) (some (decoded s .«timer_threshold»)) none) o)
+          Some FitsSettings (found none (λ s. onlyIf (decoded s .enabled) (decoded s)) o)
       of-effect none k = tt
       of-effect (some s) k = of-settings s k (decoded s .enabled)
 
-      each-below : (q : Past) → SoundPast q → All (λ e. Some (λ p. p < 65536) (enabledThreshold e)) q
-      each-below [] k = tt
-      each-below (e ∷ q) k = (of-effect (settingsIn e) (k .0), each-below q (k .1))
+      each-fits : (q : Past) → SoundPast q → All (λ e. Some FitsSettings (enablingIn e)) q
+      each-fits [] k = tt
+      each-fits (e ∷ q) k = (of-effect (settingsIn e) (k .0), each-fits q (k .1))
 
-      by : (o : Option ℕ) → Some (λ p. p < 65536) o → found 0 (λ p. p) o < 65536
+      by : (o : Option Settings) → Some FitsSettings o → found 0 (λ (s : Settings). s .«timer_threshold») o < 65536
       by none k = omega arith
-      by (some p) k = k
+      by (some s) k = k .threshold
 
 -- without settings with enable 1 no time is measured
-unstarted : (past : Past) → Good past → threshold past ≡ 0 → enabledTime past ≡ 0
-unfolding threshold enabledTime since latest sum
+unstarted : (past : Past) → Good past → timerThreshold past ≡ 0 → enabledTime past ≡ 0
+unfolding timerThreshold enabledTime since latest sum
 unstarted [] g z = refl
 unstarted (configured s ∷ past) g z = by (decoded s .enabled) z (unstarted past (g .1))
   where
     by :
         (b : Bool) →
-        found 0 (λ p. p) (orElse (cond b (some (decoded s .«timer_threshold»)) none) (latest enabledThreshold past)) ≡ 0 →
-        (threshold past ≡ 0 → enabledTime past ≡ 0) →
-        sum (cond b [] (since enables whileEnabled past)) ≡ 0
+        found 0 (λ (x : Settings). x .«timer_threshold») (orElse (onlyIf b (decoded s)) (latest enablingIn past)) ≡ 0 →
+        (timerThreshold past ≡ 0 → enabledTime past ≡ 0) →
+        sum (unlessFound (onlyIf b (decoded s)) (since enablingIn whileEnabled past)) ≡ 0
     by true y k = refl
     by false y k = k y
 unstarted (completed c ∷ past) g z = unstarted past (g .1) z
@@ -174,7 +171,7 @@ unstarted (passed ms ∷ past) g z = by (inForce past .enabled) refl (unstarted 
         (b : Bool) →
         inForce past .enabled ≡ b →
         enabledTime past ≡ 0 →
-        sum (andThen (cond b (some ms) none) (since enables whileEnabled past)) ≡ 0
+        sum (andThen (onlyIf b ms) (since enablingIn whileEnabled past)) ≡ 0
     by true on k = absurd (omega (arith, enabled-positive past (g .1) on, z))
     by false on k = k
 unstarted (clockSet value ∷ past) g z = unstarted past (g .1) z
@@ -183,12 +180,12 @@ unstarted (nothing ∷ past) g z = unstarted past (g .1) z
 
 timer-below : (past : Past) → Good past → SoundPast past → timerAt past < 65536
 unfolding timerAt windowAt
-timer-below past g sound = by (decLt 0 (threshold past))
+timer-below past g sound = by (decLt 0 (timerThreshold past))
   where
     by :
-        Dec (0 < threshold past) →
-        enabledTime past / 300000 - enabledTime past / (300000 * threshold past) * threshold past < 65536
-    by (yes h) = omega (arith, high (enabledTime past) (threshold past) h, threshold-below past sound)
+        Dec (0 < timerThreshold past) →
+        enabledTime past / 300000 - enabledTime past / (300000 * timerThreshold past) * timerThreshold past < 65536
+    by (yes h) = omega (arith, high (enabledTime past) (timerThreshold past) h, threshold-below past sound)
     by (no h) = omega (arith, unstarted past g (omega arith))
 
 -- what a window shows
@@ -223,20 +220,20 @@ few e past = by (completionIn e)
     by none = tt
     by (some c) = named c (counterOf (inForce past) c) refl
 
-first-some : (P : Counted → Type 0) (xs : List Counted) → All P xs → Some P (first xs)
-unfolding first
+first-some : (P : Counted → Type 0) (xs : List Counted) → All P xs → Some P (earliest xs)
+unfolding earliest
 first-some P [] a = tt
-first-some P (x ∷ xs) a = by (first xs) (first-some P xs (a .1))
+first-some P (x ∷ xs) a = by (earliest xs) (first-some P xs (a .1))
   where
-    by : (o : Option Counted) → Some P o → Some P (orFirst x o)
+    by : (o : Option Counted) → Some P o → Some P (orEarliest x o)
     by none k = a .0
     by (some y) k = k
 
 debug-fits : (past : Past) → FitsDebug (debugAt past)
 unfolding debugAt noDebugLog
 debug-fits past =
-    by (first (those triggered (since discards countedAt past)))
-    (first-some OfTwelve _ (all-those triggered (λ x t k. k) _ (since-all OfTwelve discards countedAt few past)))
+    by (earliest (filter triggered (since discardIn countedAt past)))
+    (first-some OfTwelve _ (all-those triggered (λ x t k. k) _ (since-all OfTwelve discardIn countedAt few past)))
   where
     by : (o : Option Counted) → Some OfTwelve o → FitsDebug (found noDebugLog logOf o)
     by none k = record { stamp = omega arith; latency = omega arith; source = omega arith }

@@ -14,10 +14,11 @@ use Rattle.monitor.specs.declared.commands.Completion.{Completion}
 use Rattle.monitor.specs.declared.record.Monitor.{Monitor}
 use Rattle.monitor.specs.Commands.{counterOf, millisecondsOf}
 use Rattle.monitor.specs.Counting.{bit, onceMore, loads, triggers, debugLog}
-use Rattle.monitor.specs.Facts.{inForce, time, clockAt, hostAt, threshold, enabledTime, windowAt, timerAt}
-use Rattle.monitor.specs.Facts.{Counted, countedAt, those, activeFor, staticFor, active, static, countOf}
-use Rattle.monitor.specs.Facts.{loadsAfter, orLoad, lastLoad, stampOf, latencyOf, loadedOf, each, windowFrom}
-use Rattle.monitor.specs.Facts.{discards, triggered, orFirst, first, logOf, debugAt, recordOf, sinceEnabled}
+use Rattle.monitor.specs.Claims.{loadedOf, recordOf}
+use Rattle.monitor.specs.Facts.{inForce, time, clockAt, hostAt, timerThreshold, enabledTime, windowAt, timerAt}
+use Rattle.monitor.specs.Facts.{Counted, countedAt, filter, activeFor, staticFor, active, static, countOf}
+use Rattle.monitor.specs.Facts.{loadsAfter, orLoad, lastLoad, stampOf, latencyOf, each, windowFrom}
+use Rattle.monitor.specs.Facts.{discardIn, triggered, orEarliest, earliest, logOf, debugAt, sinceEnabled}
 use Rattle.monitor.specs.History.{completed, Past, found, andThen, latest, since}
 use Rattle.monitor.specs.Record.{afterCompletion}
 use Rattle.monitor.specs.Timer.{inWindow}
@@ -31,7 +32,7 @@ use Rattle.monitor.proofs.histories.Windows.{in-window}
 -- the time in the active window, as the record has it
 now-is : (past : Past) → inWindow (timerAt past) (enabledTime past % 300000) ≡ enabledTime past % span past
 unfolding timerAt windowAt
-now-is past = in-window (enabledTime past) (threshold past)
+now-is past = in-window (enabledTime past) (timerThreshold past)
 
 -- whether a completion is a load, after the last load before it
 abbrev loading : Counted → Option Counted → Bool
@@ -48,17 +49,17 @@ module _ (past : Past) (c : Completion) (n : ℕ) where
 
   -- the completions of counter k in the active window, and this one
   abbrev joined : ℕ → List Counted
-  joined k = those (activeFor past k) (here-counted ∷ sinceEnabled past)
+  joined k = filter (activeFor past k) (here-counted ∷ sinceEnabled past)
 
   abbrev mine : List Counted
   mine = active past n
 
   joins : (k : ℕ) → k ≡ n → joined k ≡ here-counted ∷ active past k
-  unfolding those active
+  unfolding filter active
   joins k e = rw (eq-eqb (windowAt past) (windowAt past) refl, eq-eqb n k (sym e))
 
   leaves : (k : ℕ) → (k ≡ n → ⊥) → joined k ≡ active past k
-  unfolding those active
+  unfolding filter active
   leaves k e = rw (eq-eqb (windowAt past) (windowAt past) refl, ne-eqb n k (λ q. e (sym q)))
 
   module _ {A : Type 0} (f : List Counted → A) where
@@ -125,28 +126,28 @@ module _ (past : Past) (c : Completion) (n : ℕ) where
       by (some y) k = rw (ne-eqb (clockAt (y .before)) unset (λ e. omega (arith, clock-top (y .before))), ← k)
 
   -- the last finished window does not take it in
-  pub left-out : (k : ℕ) → those (staticFor past k) (here-counted ∷ sinceEnabled past) ≡ static past k
-  unfolding those static
+  pub left-out : (k : ℕ) → filter (staticFor past k) (here-counted ∷ sinceEnabled past) ≡ static past k
+  unfolding filter static
   left-out k = rw (ne-eqb (windowAt past + 1) (windowAt past) (λ e. omega arith))
 
   pub logs :
       cond (triggers (bit (inForce past .trigger) n) (debugAt past .stamp)) (debugLog n (clockAt past) (millisecondsOf c) (hostAt past)) (debugAt past) ≡
-      found noDebugLog logOf (first (those triggered (here-counted ∷ since discards countedAt past)))
-  unfolding those first debugAt triggers noDebugLog
-  logs = by (bit (inForce past .trigger) n) (those triggered (since discards countedAt past))
+      found noDebugLog logOf (earliest (filter triggered (here-counted ∷ since discardIn countedAt past)))
+  unfolding filter earliest debugAt triggers noDebugLog
+  logs = by (bit (inForce past .trigger) n) (filter triggered (since discardIn countedAt past))
     where
       held :
           (o : Option Counted) →
           cond (eqb (found noDebugLog logOf o .stamp) unset) (logOf here-counted) (found noDebugLog logOf o) ≡
-          found noDebugLog logOf (orFirst here-counted o)
+          found noDebugLog logOf (orEarliest here-counted o)
       held none = refl
       held (some y) = rw (ne-eqb (clockAt (y .before)) unset (λ e. omega (arith, clock-top (y .before))))
 
       by :
           (b : Bool) (xs : List Counted) →
-          cond (b && eqb (found noDebugLog logOf (first xs) .stamp) unset) (logOf here-counted) (found noDebugLog logOf (first xs)) ≡
-          found noDebugLog logOf (first (cond b (here-counted ∷ xs) xs))
-      by true xs = held (first xs)
+          cond (b && eqb (found noDebugLog logOf (earliest xs) .stamp) unset) (logOf here-counted) (found noDebugLog logOf (earliest xs)) ≡
+          found noDebugLog logOf (earliest (cond b (here-counted ∷ xs) xs))
+      by true xs = held (earliest xs)
       by false xs = refl
 
 all-active : (past : Past) → Good past → inForce past .enabled ≡ true → (n : ℕ) → All (Here past) (active past n)
@@ -160,14 +161,14 @@ found-at past c o = found none (λ n. some (record { counter = n; command = c; b
 abbrev after-it : Past → Completion → Option ℕ → Monitor
 after-it past c o =
     described (inForce past) (timerAt past) (hostAt past) (enabledTime past % 300000) (clockAt past)
-    (found noDebugLog logOf (first (those triggered (andThen (found-at past c o) (since discards countedAt past)))))
+    (found noDebugLog logOf (earliest (filter triggered (andThen (found-at past c o) (since discardIn countedAt past)))))
     (windowAt past)
     (andThen (found-at past c o) (sinceEnabled past))
 
 facts-after :
     (past : Past) (c : Completion) →
     recordOf (completed c ∷ past) ≡ after-it past c (counterOf (inForce past) c)
-unfolding recordOf inForce clockAt hostAt timerAt windowAt enabledTime threshold active static debugAt since latest
+unfolding recordOf inForce clockAt hostAt timerAt windowAt enabledTime timerThreshold active static debugAt since latest
 facts-after past c = refl
 
 not-counted-step :

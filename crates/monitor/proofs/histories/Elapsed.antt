@@ -5,15 +5,16 @@ use mathlib.Core.Bool.{Bool, true, false, cond, not}
 use mathlib.Core.List.{List, [], _∷_}
 use native.Mathlib.Numerals.{add-one}
 use native.Mathlib.Omega.{arith}
-use lib.Dec.{eqb, leb, eqb·suc-suc}
+use lib.Dec.{eqb, leb, eqb·suc-suc, ltb}
 use lib.ListN.{replicate}
 use borrow.Author.Tests.{eq-eqb, ne-eqb, lt-ltb, le-ltb, le-leb, lt-leb, leb-true, leb-false}
 use Rattle.logpage.specs.Fields.{emptyWindow}
 use Rattle.monitor.specs.declared.record.Monitor.{Monitor}
 use Rattle.monitor.specs.declared.timer.Tick.{Tick}
-use Rattle.monitor.specs.Facts.{inForce, sum, clockAt, hostAt, threshold, enabledTime, windowAt, timerAt, Counted}
-use Rattle.monitor.specs.Facts.{those, activeFor, active, static, countOf, lastLoad, stampOf, latencyOf, unitsOf}
-use Rattle.monitor.specs.Facts.{loadedOf, each, windowFrom, debugAt, recordOf, sinceEnabled}
+use Rattle.monitor.specs.Claims.{loadedOf, recordOf}
+use Rattle.monitor.specs.Facts.{inForce, sum, clockAt, hostAt, timerThreshold, enabledTime, windowAt, timerAt, Counted}
+use Rattle.monitor.specs.Facts.{filter, activeFor, active, static, countOf, lastLoad, stampOf, latencyOf, unitsOf}
+use Rattle.monitor.specs.Facts.{each, windowFrom, debugAt, sinceEnabled}
 use Rattle.monitor.specs.History.{passed, Past, latest, since}
 use Rattle.monitor.specs.Answers.{ended}
 use Rattle.monitor.specs.Record.{noLoads, afterElapsed, elapsedReply}
@@ -28,7 +29,7 @@ use Rattle.monitor.proofs.histories.Windows.{goes-on, ends, ends-timer,
 -- the facts after time that brought the time while enabled to t
 abbrev after-time : Past → ℕ → ℕ → Monitor
 after-time past ms t =
-    described (inForce past) (t / 300000 - t / span past * threshold past) (hostAt past) (t % 300000) (grown (clockAt past) ms)
+    described (inForce past) (t / 300000 - t / span past * timerThreshold past) (hostAt past) (t % 300000) (grown (clockAt past) ms)
     (debugAt past) (t / span past) (sinceEnabled past)
 
 time-after :
@@ -44,27 +45,27 @@ unfolding clockAt latest since sum
 clock-after past ms = omega arith
 
 facts-after : (past : Past) (ms : ℕ) → recordOf (passed ms ∷ past) ≡ after-time past ms (enabledTime (passed ms ∷ past))
-unfolding recordOf inForce hostAt timerAt windowAt threshold active static debugAt latest since
+unfolding recordOf inForce hostAt timerAt windowAt timerThreshold active static debugAt latest since
 facts-after past ms =
     ap (λ n. described (inForce past) (timerAt (passed ms ∷ past)) (hostAt past) (enabledTime (passed ms ∷ past) % 300000) n (debugAt past) (windowAt (passed ms ∷ past)) (sinceEnabled past))
     (clock-after past ms)
 
 -- what a window's end makes of what is asked of each counter's completions
 module _ (past : Past) (g : Good past) {A : Type 0} (f : List Counted → A) where
-  emptied : replicate 12 (f []) ≡ each (λ k. f (those (within (suc (windowAt past)) k) (sinceEnabled past)))
+  emptied : replicate 12 (f []) ≡ each (λ k. f (filter (within (suc (windowAt past)) k) (sinceEnabled past)))
   emptied = sym (from-replicate 0 12 _ (f []) (λ k. ap f (nothing-late k)))
     where
       late : (k : ℕ) (x : Counted) → Fine past x → within (suc (windowAt past)) k x ≡ false
       late k x h = rw (ne-eqb (windowAt (x .before)) (suc (windowAt past)) (λ e. omega (arith, h .early)))
 
-      nothing-late : (k : ℕ) → those (within (suc (windowAt past)) k) (sinceEnabled past) ≡ []
+      nothing-late : (k : ℕ) → filter (within (suc (windowAt past)) k) (sinceEnabled past) ≡ []
       nothing-late k = those-none (within (suc (windowAt past)) k) (Fine past) (late k) (sinceEnabled past) (fine past g)
 
 handed-on :
     (past : Past) →
     Good past →
     (k : ℕ) →
-    active past k ≡ those (preceding (suc (windowAt past)) k) (sinceEnabled past)
+    active past k ≡ filter (preceding (suc (windowAt past)) k) (sinceEnabled past)
 unfolding active
 handed-on past g k =
     those-same (activeFor past k) (Fine past) (preceding (suc (windowAt past)) k) (λ x h. rw (add-one, eqb·suc-suc (windowAt (x .before)) (windowAt past)))
@@ -73,7 +74,7 @@ handed-on past g k =
 empty-handed :
     (past : Past) →
     Good past →
-    emptyWindow ≡ windowFrom (λ k. those (within (suc (windowAt past)) k) (sinceEnabled past))
+    emptyWindow ≡ windowFrom (λ k. filter (within (suc (windowAt past)) k) (sinceEnabled past))
 unfolding emptyWindow countOf lastLoad
 empty-handed past g =
     λ i. record {
@@ -86,7 +87,7 @@ empty-handed past g =
 no-loads :
     (past : Past) →
     Good past →
-    noLoads ≡ each (λ k. loadedOf (lastLoad (those (within (suc (windowAt past)) k) (sinceEnabled past))))
+    noLoads ≡ each (λ k. loadedOf (lastLoad (filter (within (suc (windowAt past)) k) (sinceEnabled past))))
 unfolding lastLoad
 no-loads past g = emptied past g (λ xs. loadedOf (lastLoad xs))
 
@@ -116,20 +117,20 @@ module _ (past : Past) (g : Good past) (ms : ℕ) (fits : ms ≤ 300000) where
   t = enabledTime past
 
   abbrev p : ℕ
-  p = threshold past
+  p = timerThreshold past
 
   -- the record that elapsed time leaves, and its answer, once the time while enabled is u
   abbrev Comes : ℕ → Type 0
   Comes u =
       (afterElapsed (recordOf past) ms ≡ after-time past ms u)
-      × (elapsedReply (recordOf past) ms ≡ ended (not (eqb (u / span past) (windowAt past))))
+      × (elapsedReply (recordOf past) ms ≡ ended (ltb (windowAt past) (u / span past)))
 
   -- the record's own step, once the timer's is known
   comes :
       (u : ℕ) (next : Tick) (expired : Bool) →
       next ≡ ticked (inForce past .enabled) (inForce past .«timer_threshold») (timerAt past) (t % 300000) ms →
       next .expired ≡ expired →
-      expired ≡ not (eqb (u / span past) (windowAt past)) →
+      expired ≡ ltb (windowAt past) (u / span past) →
       moved (recordOf past) (grown (clockAt past) ms) next expired ≡ after-time past ms u →
       Comes u
   unfolding recordOf
@@ -138,11 +139,11 @@ module _ (past : Past) (g : Good past) (ms : ℕ) (fits : ms ≤ 300000) where
       (sym (laws .0) ∙ m, sym (laws .1) ∙ ap ended w)
 
   -- the window goes on, or ends
-  same-window : (u : ℕ) → u / span past ≡ windowAt past → false ≡ not (eqb (u / span past) (windowAt past))
-  same-window u e = rw (eq-eqb (u / span past) (windowAt past) e)
+  same-window : (u : ℕ) → u / span past ≡ windowAt past → false ≡ ltb (windowAt past) (u / span past)
+  same-window u e = sym (le-ltb (windowAt past) (u / span past) (omega (arith, e)))
 
-  next-window : (u : ℕ) → u / span past ≡ suc (windowAt past) → true ≡ not (eqb (u / span past) (windowAt past))
-  next-window u e = rw (ne-eqb (u / span past) (windowAt past) (λ q. omega (arith, q, e)))
+  next-window : (u : ℕ) → u / span past ≡ suc (windowAt past) → true ≡ ltb (windowAt past) (u / span past)
+  next-window u e = sym (lt-ltb (windowAt past) (u / span past) (omega (arith, e)))
 
   off : inForce past .enabled ≡ false → Comes t
   unfolding recordOf timerAt windowAt active static
@@ -208,6 +209,6 @@ module _ (past : Past) (g : Good past) (ms : ℕ) (fits : ms ≤ 300000) where
   pub elapsed-step : afterElapsed (recordOf past) ms ≡ recordOf (passed ms ∷ past)
   elapsed-step = came .0 ∙ sym (facts-after past ms)
 
-  pub elapsed-answer : elapsedReply (recordOf past) ms ≡ ended (not (eqb (windowAt (passed ms ∷ past)) (windowAt past)))
-  unfolding windowAt threshold latest
+  pub elapsed-answer : elapsedReply (recordOf past) ms ≡ ended (ltb (windowAt past) (windowAt (passed ms ∷ past)))
+  unfolding windowAt timerThreshold latest
   elapsed-answer = came .1

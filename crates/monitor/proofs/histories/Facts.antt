@@ -13,10 +13,11 @@ use Rattle.logpage.specs.declared.DebugLog.{DebugLog}
 use Rattle.logpage.specs.declared.Settings.{Settings}
 use Rattle.monitor.specs.declared.record.Monitor.{Monitor}
 use Rattle.monitor.specs.Commands.{counterOf}
-use Rattle.monitor.specs.Facts.{inForce, sum, time, clockAt, hostAt, threshold, enabledTime, windowAt, timerAt}
-use Rattle.monitor.specs.Facts.{Counted, those, activeFor, active, static, orLoad, loadsAfter, lastLoad, loadedOf}
-use Rattle.monitor.specs.Facts.{each, windowFrom, debugAt, recordOf, sinceEnabled}
-use Rattle.monitor.specs.History.{Effect, configured, completed, passed, clockSet, poweredUp, nothing, Past}
+use Rattle.monitor.specs.Claims.{loadedOf, recordOf}
+use Rattle.monitor.specs.Facts.{inForce, sum, time, clockAt, hostAt, timerThreshold, enabledTime, windowAt, timerAt}
+use Rattle.monitor.specs.Facts.{Counted, filter, activeFor, active, static, orLoad, loadsAfter, lastLoad}
+use Rattle.monitor.specs.Facts.{each, windowFrom, debugAt, sinceEnabled}
+use Rattle.monitor.specs.History.{Effect, configured, completed, passed, clockSet, poweredUp, nothing, Past, unlessFound, onlyIf}
 use Rattle.monitor.specs.History.{found, latest, since, andThen}
 use Rattle.monitor.specs.Settings.{decoded}
 use Rattle.monitor.proofs.histories.Lists.{All, Some, all-map}
@@ -36,8 +37,8 @@ Good [] = Unit {0}
 Good (e ∷ past) = Ok e × Good past
 
 -- while enabled, the settings in force are those with enable 1 last accepted
-pub enabled-threshold : (past : Past) → inForce past .enabled ≡ true → inForce past .«timer_threshold» ≡ threshold past
-unfolding inForce threshold latest noSettings
+pub enabled-threshold : (past : Past) → inForce past .enabled ≡ true → inForce past .«timer_threshold» ≡ timerThreshold past
+unfolding inForce timerThreshold latest noSettings
 enabled-threshold [] on = absurd (false≢true on)
 enabled-threshold (configured s ∷ past) on = rw on
 enabled-threshold (completed c ∷ past) on = enabled-threshold past on
@@ -46,8 +47,8 @@ enabled-threshold (clockSet value ∷ past) on = enabled-threshold past on
 enabled-threshold (poweredUp ∷ past) on = enabled-threshold past on
 enabled-threshold (nothing ∷ past) on = enabled-threshold past on
 
-pub enabled-positive : (past : Past) → Good past → inForce past .enabled ≡ true → 0 < threshold past
-unfolding inForce threshold latest noSettings
+pub enabled-positive : (past : Past) → Good past → inForce past .enabled ≡ true → 0 < timerThreshold past
+unfolding inForce timerThreshold latest noSettings
 enabled-positive [] g on = absurd (false≢true on)
 enabled-positive (configured s ∷ past) g on = rw on (g .0)
 enabled-positive (completed c ∷ past) g on = enabled-positive past (g .1) on
@@ -62,7 +63,7 @@ clock-top past = omega arith
 
 -- the length of a window
 abbrev pub span : Past → ℕ
-span past = 300000 * threshold past
+span past = 300000 * timerThreshold past
 
 -- the time in its window at a completion's place
 abbrev pub into : Counted → ℕ
@@ -76,7 +77,7 @@ pub record Fine (past : Past) (x : Counted) : Type 0 where
       windowAt (x .before) * span past + into x + time past ≡ time (x .before) + enabledTime past
 
 pub fine : (past : Past) → Good past → All (Fine past) (sinceEnabled past)
-unfolding since windowAt inForce time enabledTime threshold latest sum
+unfolding since windowAt inForce time enabledTime timerThreshold latest sum
 fine [] g = tt
 fine (configured s ∷ past) g = go (decoded s .enabled) refl (fine past (g .1))
   where
@@ -84,7 +85,7 @@ fine (configured s ∷ past) g = go (decoded s .enabled) refl (fine past (g .1))
         (b : Bool) →
         decoded s .enabled ≡ b →
         All (Fine past) (sinceEnabled past) →
-        All (Fine (configured s ∷ past)) (cond b [] (sinceEnabled past))
+        All (Fine (configured s ∷ past)) (unlessFound (onlyIf b (decoded s)) (sinceEnabled past))
     go true e f = tt
     go false e f =
         all-map (λ x k. record { early = rw e (k .early); apart = λ on. absurd (true≢false (sym on ∙ e)) }) (sinceEnabled past) f
@@ -174,10 +175,10 @@ described settings timer host partial clock debug w xs =
       host = host;
       partial = partial;
       clock = clock;
-      loaded = each (λ k. loadedOf (lastLoad (those (within w k) xs)));
+      loaded = each (λ k. loadedOf (lastLoad (filter (within w k) xs)));
       debug = debug;
-      «static_window» = windowFrom (λ k. those (preceding w k) xs);
-      «active_window» = windowFrom (λ k. those (within w k) xs);
+      «static_window» = windowFrom (λ k. filter (preceding w k) xs);
+      «active_window» = windowFrom (λ k. filter (within w k) xs);
     }
 
 pub as-described :

@@ -11,13 +11,13 @@ use lib.Seq.{drop-cons}
 use borrow.Author.Tests.{eqb-true, eqb-false, ltb-false}
 use Rattle.endian.specs.Stores.{lowFirst}
 use Rattle.endian.proofs.Bytes.{none-set}
-use Rattle.logpage.specs.Block.{bit}
+use Rattle.logpage.specs.Block.{flag}
 use Rattle.logpage.specs.Fields.{noSettings}
 use Rattle.logpage.specs.Page.{pageBytes}
-use Rattle.monitor.specs.Claims.{PageShowsFacts, lastAccepted, SettingsComeBack}
-use Rattle.monitor.specs.Facts.{inForce, from, factsOf, recordOf}
+use Rattle.monitor.specs.Claims.{recordOf, PageShowsFacts, lastAccepted, SettingsComeBack}
+use Rattle.monitor.specs.Facts.{inForce, from, factsOf}
 use Rattle.monitor.specs.History.{Bytes, settingsIn, found, latest, pastOf}
-use Rattle.monitor.specs.Report.{shown, pageOf, settingsOf}
+use Rattle.monitor.specs.Report.{fieldsOf, pageOf, settingsOf}
 use Rattle.monitor.specs.Settings.{decoded, encoded, discard, enable}
 use Rattle.monitor.proofs.histories.Bounds.{Sound, sound-past, byte-at, latest-some}
 use Rattle.monitor.proofs.histories.Lists.{Some}
@@ -26,7 +26,7 @@ use Rattle.monitor.proofs.refusals.Laws.{Accepted, accepted}
 
 pub page-shows-facts : PageShowsFacts
 unfolding pageOf recordOf factsOf
-page-shows-facts h = ap (λ m. pageBytes (shown m)) (played-as-facts h)
+page-shows-facts h = ap (λ m. pageBytes (fieldsOf m)) (played-as-facts h)
 
 -- a list is its first n entries and the rest
 heads : (s : List ℕ) (i n : ℕ) → i + n ≤ length s → drop i s ≡ from i n (λ k. getD s k 0) ++ drop (i + n) s
@@ -52,11 +52,11 @@ low-word a b h k =
     let r : b % 256 ≡ b = omega arith in
     rw (p, q, r)
 
-flag-byte : (v : ℕ) → v ≤ 1 → lowFirst 1 (bit (eqb v 1)) ≡ v ∷ []
+flag-byte : (v : ℕ) → v ≤ 1 → lowFirst 1 (flag (eqb v 1)) ≡ v ∷ []
 unfolding lowFirst
 flag-byte v h = by (eqb v 1) refl
   where
-    by : (b : Bool) → eqb v 1 ≡ b → lowFirst 1 (bit b) ≡ v ∷ []
+    by : (b : Bool) → eqb v 1 ≡ b → lowFirst 1 (flag b) ≡ v ∷ []
     by true e = rw (eqb-true v 1 e)
     by false e = let z : v ≡ 0 = omega (arith, eqb-false v 1 e) in rw z
 
@@ -73,7 +73,7 @@ round-trip s b a = ap front (sym rest) ∙ laid ∙ ap (λ t. set t 11 0) (sym (
     front t =
         lowFirst 2 (getD s 0 0 + 256 * getD s 1 0) ++ lowFirst 1 (getD s 2 0) ++ lowFirst 1 (getD s 3 0) ++ lowFirst 1 (getD s 4 0)
         ++ lowFirst 1 (getD s 5 0) ++ lowFirst 2 (getD s 6 0 + 256 * getD s 7 0) ++ lowFirst 1 (getD s 8 0)
-        ++ lowFirst 2 (getD s 9 0 + 256 * getD s 10 0) ++ (0 ∷ []) ++ lowFirst 1 (bit (eqb (getD s 12 0) 1)) ++ t
+        ++ lowFirst 2 (getD s 9 0 + 256 * getD s 10 0) ++ (0 ∷ []) ++ lowFirst 1 (flag (eqb (getD s 12 0) 1)) ++ t
 
     rest : drop 13 s ≡ replicate 4083 0
     rest = none-set (drop 13 s) (a .clear) ∙ rw (length-drop 13 s, a .whole)

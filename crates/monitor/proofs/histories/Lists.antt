@@ -9,7 +9,7 @@ use native.Mathlib.Omega.{arith}
 use lib.Dec.{eqb}
 use lib.ListN.{getD, set, replicate, length}
 use borrow.Author.Tests.{eq-eqb, ne-eqb}
-use Rattle.monitor.specs.Facts.{Counted, those, from}
+use Rattle.monitor.specs.Facts.{Counted, filter, from}
 
 module _ {A : Type 0} where
   pub from-at : (i n : ℕ) (f : ℕ → A) (j : ℕ) (d : A) → j < n → getD (from i n f) j d ≡ f (i + j)
@@ -72,12 +72,12 @@ pub all-those :
     ((x : Counted) → t x ≡ true → P x → Q x) →
     (xs : List Counted) →
     All P xs →
-    All Q (those t xs)
-unfolding those
+    All Q (filter t xs)
+unfolding filter
 all-those t f [] h = tt
 all-those {P} {Q} t f (x ∷ xs) h = go (all-those t f xs (h .1)) (t x) refl
   where
-    go : All Q (those t xs) → (b : Bool) → t x ≡ b → All Q (cond b (x ∷ those t xs) (those t xs))
+    go : All Q (filter t xs) → (b : Bool) → t x ≡ b → All Q (cond b (x ∷ filter t xs) (filter t xs))
     go rest true e = (f x e (h .0), rest)
     go rest false e = rest
 
@@ -87,12 +87,12 @@ module _ (t : Counted → Bool) (P : Counted → Type 0) where
       ((x : Counted) → P x → t x ≡ s x) →
       (xs : List Counted) →
       All P xs →
-      those t xs ≡ those s xs
-  unfolding those
+      filter t xs ≡ filter s xs
+  unfolding filter
   those-same s f [] h = refl
   those-same s f (x ∷ xs) h = rw (f x (h .0), those-same s f xs (h .1))
 
-  pub those-none : ((x : Counted) → P x → t x ≡ false) → (xs : List Counted) → All P xs → those t xs ≡ []
-  unfolding those
+  pub those-none : ((x : Counted) → P x → t x ≡ false) → (xs : List Counted) → All P xs → filter t xs ≡ []
+  unfolding filter
   those-none f [] h = refl
   those-none f (x ∷ xs) h = rw (f x (h .0), those-none f xs (h .1))

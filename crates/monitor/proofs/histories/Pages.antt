@@ -10,7 +10,7 @@ use Rattle.logpage.specs.Page.{pageBytes}
 use Rattle.monitor.specs.Claims.{SameCounter, Agree, PagesAgree}
 use Rattle.monitor.specs.Facts.{active, static, Counted, countOf, lastLoad, stampOf, latencyOf, unitsOf, each}
 use Rattle.monitor.specs.Facts.{windowFrom, factsOf}
-use Rattle.monitor.specs.History.{History, pastOf}
+use Rattle.monitor.specs.History.{Past, pastOf}
 use Rattle.monitor.proofs.histories.Bounds.{facts-fit}
 use Rattle.monitor.proofs.histories.Given.{page-shows-facts}
 use Rattle.monitor.proofs.histories.Lists.{from-at, from-same}
@@ -39,31 +39,31 @@ module _ (f g : ℕ → List Counted) where
         units = each-at false (λ k. unitsOf (lastLoad (f k))) (λ k. unitsOf (lastLoad (g k))) (ap (λ w. w .units) e) n few;
       }
 
-module _ (h k : History) where
-  facts-same : Agree h k → factsOf (pastOf h) ≡ factsOf (pastOf k)
+module _ (a b : Past) where
+  facts-same : Agree a b → factsOf a ≡ factsOf b
   unfolding factsOf
-  facts-same a =
+  facts-same h =
       λ i. record {
-        settings = a .settings i;
-        timer = a .timer i;
-        «active_window» = windows-same (active (pastOf h)) (active (pastOf k)) (a .active-window) i;
-        «static_window» = windows-same (static (pastOf h)) (static (pastOf k)) (a .static-window) i;
-        debug = a .debug i;
+        settings = h .settings i;
+        timer = h .timer i;
+        «active_window» = windows-same (active a) (active b) (h .active-window) i;
+        «static_window» = windows-same (static a) (static b) (h .static-window) i;
+        debug = h .debug i;
       }
 
-  facts-agree : factsOf (pastOf h) ≡ factsOf (pastOf k) → Agree h k
+  facts-agree : factsOf a ≡ factsOf b → Agree a b
   unfolding factsOf
   facts-agree e =
       record {
         settings = ap (λ p. p .settings) e;
         timer = ap (λ p. p .timer) e;
-        active-window = counters-same (active (pastOf h)) (active (pastOf k)) (ap (λ p. p .«active_window») e);
-        static-window = counters-same (static (pastOf h)) (static (pastOf k)) (ap (λ p. p .«static_window») e);
+        active-window = counters-same (active a) (active b) (ap (λ p. p .«active_window») e);
+        static-window = counters-same (static a) (static b) (ap (λ p. p .«static_window») e);
         debug = ap (λ p. p .debug) e;
       }
 
 pub pages-agree : PagesAgree
 pages-agree h k b c = (
-  λ e. facts-agree h k (page-apart _ _ (facts-fit h b) (facts-fit k c) (sym (page-shows-facts h) ∙ e ∙ page-shows-facts k)),
-  λ a. page-shows-facts h ∙ ap pageBytes (facts-same h k a) ∙ sym (page-shows-facts k),
+  λ e. facts-agree (pastOf h) (pastOf k) (page-apart _ _ (facts-fit h b) (facts-fit k c) (sym (page-shows-facts h) ∙ e ∙ page-shows-facts k)),
+  λ a. page-shows-facts h ∙ ap pageBytes (facts-same (pastOf h) (pastOf k) a) ∙ sym (page-shows-facts k),
 )

@@ -10,9 +10,10 @@ use lib.Dec.{eqb, ltb}
 use borrow.Author.Tests.{le-ltb, ltb-true, ltb-false, eqb-true, eqb-false}
 use Rattle.logpage.specs.Fields.{noSettings, emptyWindow, noDebugLog}
 use Rattle.monitor.specs.declared.record.Monitor.{Monitor}
-use Rattle.monitor.specs.Claims.{PlayedAsFacts, WindowEnds}
-use Rattle.monitor.specs.Facts.{inForce, sum, clockAt, hostAt, threshold, enabledTime, windowAt, timerAt, Counted, countedAt, those, active, static, countOf, lastLoad, from, each, windowFrom, loadedOf, discards, triggered, first, logOf, debugAt, recordOf, sinceEnabled}
-use Rattle.monitor.specs.History.{Call, settings, completion, elapsed, clock, powerUp, page, settingsBack, History, after, playFrom, play, Effect, configured, clockSet, poweredUp, nothing, passed, asked, refusalOf, ifAccepted, effectOf, Past, pastOf, found, latest, since}
+use Rattle.monitor.specs.Answers.{refused, ended, unlessRefused}
+use Rattle.monitor.specs.Claims.{recordOf, PlayedAsFacts, WindowEnds}
+use Rattle.monitor.specs.Facts.{inForce, sum, clockAt, hostAt, timerThreshold, enabledTime, windowAt, timerAt, Counted, countedAt, filter, active, static, countOf, lastLoad, from, each, windowFrom, discardIn, triggered, earliest, logOf, debugAt, sinceEnabled}
+use Rattle.monitor.specs.History.{Call, settings, completion, elapsed, clock, powerUp, page, settingsBack, History, after, playFrom, play, Effect, configured, clockSet, poweredUp, nothing, passed, asked, refusalOf, ifAccepted, effectOf, Past, pastOf, found, latest, since, unlessFound, onlyIf}
 use Rattle.monitor.specs.Record.{newMonitor, afterSettings, afterElapsed, elapsedReply, afterClock, afterPowerUp}
 use Rattle.monitor.specs.Refusals.{settingsRefusal, fieldRefusal, elapsedRefusal, clockRefusal, eitherAbove, pageRefusal, settingsBackRefusal}
 use Rattle.monitor.specs.Settings.{decoded, discard}
@@ -29,8 +30,8 @@ module _ (past : Past) (s : List ℕ) where
   time-after true e = rw e
   time-after false e = rw e
 
-  threshold-after : (b : Bool) → decoded s .enabled ≡ b → threshold (configured s ∷ past) ≡ cond b (decoded s .«timer_threshold») (threshold past)
-  unfolding threshold latest
+  threshold-after : (b : Bool) → decoded s .enabled ≡ b → timerThreshold (configured s ∷ past) ≡ cond b (decoded s .«timer_threshold») (timerThreshold past)
+  unfolding timerThreshold latest
   threshold-after true e = rw e
   threshold-after false e = rw e
 
@@ -40,10 +41,10 @@ module _ (past : Past) (s : List ℕ) where
   counted-after false e = rw e
 
   debug-after : debugAt (configured s ∷ past) ≡ cond (eqb (discard s) 1) noDebugLog (debugAt past)
-  unfolding debugAt since first those
+  unfolding debugAt since earliest filter
   debug-after = by (eqb (discard s) 1)
     where
-      by : (b : Bool) → found noDebugLog logOf (first (those triggered (cond b [] (since discards countedAt past)))) ≡ cond b noDebugLog (debugAt past)
+      by : (b : Bool) → found noDebugLog logOf (earliest (filter triggered (unlessFound (onlyIf b s) (since discardIn countedAt past)))) ≡ cond b noDebugLog (debugAt past)
       by true = refl
       by false = refl
 
@@ -55,15 +56,15 @@ module _ (past : Past) (s : List ℕ) where
       (t / (300000 * p))
       xs
 
-  facts-after : recordOf (configured s ∷ past) ≡ of-these (enabledTime (configured s ∷ past)) (threshold (configured s ∷ past)) (sinceEnabled (configured s ∷ past))
+  facts-after : recordOf (configured s ∷ past) ≡ of-these (enabledTime (configured s ∷ past)) (timerThreshold (configured s ∷ past)) (sinceEnabled (configured s ∷ past))
   unfolding recordOf inForce clockAt hostAt timerAt windowAt active static latest since
   facts-after = rw debug-after
 
   emptied-or-kept :
       (b : Bool) →
       reset (recordOf past) (decoded s) (cond (eqb (discard s) 1) noDebugLog (debugAt past)) b ≡
-      of-these (cond b 0 (enabledTime past)) (cond b (decoded s .«timer_threshold») (threshold past)) (cond b [] (sinceEnabled past))
-  unfolding recordOf timerAt windowAt active static emptyWindow those lastLoad countOf from
+      of-these (cond b 0 (enabledTime past)) (cond b (decoded s .«timer_threshold») (timerThreshold past)) (cond b [] (sinceEnabled past))
+  unfolding recordOf timerAt windowAt active static emptyWindow filter lastLoad countOf from
   emptied-or-kept true = rw (zero-div (300000 * decoded s .«timer_threshold»), zero-mul (decoded s .«timer_threshold»))
   emptied-or-kept false = refl
 
@@ -76,22 +77,22 @@ module _ (past : Past) (s : List ℕ) where
       sym facts-after
 
 clock-step : (past : Past) (value : ℕ) → value ≤ 281474976710655 → afterClock (recordOf past) value ≡ recordOf (clockSet value ∷ past)
-unfolding afterClock clockRefusal recordOf inForce clockAt hostAt timerAt windowAt enabledTime threshold active static debugAt latest since sum
+unfolding afterClock clockRefusal recordOf inForce clockAt hostAt timerAt windowAt enabledTime timerThreshold active static debugAt latest since sum
 clock-step past value h =
     let e : value ≡ min (value + 0) 281474976710655 = omega arith in
     rw (le-ltb 281474976710655 value h)
     (ap (λ n. described (inForce past) (timerAt past) true (enabledTime past % 300000) n (debugAt past) (windowAt past) (sinceEnabled past)) e)
 
 power-up-step : (past : Past) → afterPowerUp (recordOf past) ≡ recordOf (poweredUp ∷ past)
-unfolding afterPowerUp recordOf inForce clockAt hostAt timerAt windowAt enabledTime threshold active static debugAt latest since sum
+unfolding afterPowerUp recordOf inForce clockAt hostAt timerAt windowAt enabledTime timerThreshold active static debugAt latest since sum
 power-up-step past = refl
 
 nothing-step : (past : Past) → recordOf past ≡ recordOf (nothing ∷ past)
-unfolding recordOf inForce clockAt hostAt timerAt windowAt enabledTime threshold active static debugAt latest since sum
+unfolding recordOf inForce clockAt hostAt timerAt windowAt enabledTime timerThreshold active static debugAt latest since sum
 nothing-step past = refl
 
 new-step : newMonitor ≡ recordOf []
-unfolding newMonitor recordOf inForce clockAt hostAt timerAt windowAt enabledTime threshold active static debugAt latest since sum emptyWindow those lastLoad countOf from first
+unfolding newMonitor recordOf inForce clockAt hostAt timerAt windowAt enabledTime timerThreshold active static debugAt latest since sum emptyWindow filter lastLoad countOf from earliest
 new-step = refl
 
 -- a refused call
@@ -103,6 +104,10 @@ module _ (m : Monitor) (n : ℕ) where
   elapsed-kept : (ms : ℕ) → elapsedRefusal ms ≡ some n → afterElapsed m ms ≡ m
   unfolding afterElapsed
   elapsed-kept ms e = rw e
+
+  elapsed-refused : (ms : ℕ) → elapsedRefusal ms ≡ some n → elapsedReply m ms ≡ refused n
+  unfolding elapsedReply
+  elapsed-refused ms e = rw e
 
   clock-kept : (value : ℕ) → clockRefusal value ≡ some n → afterClock m value ≡ m
   unfolding afterClock
@@ -149,5 +154,12 @@ played-as-facts [] = new-step
 played-as-facts (c ∷ h) = ap (after c) (played-as-facts h) ∙ step (pastOf h) (good h) c .1
 
 pub window-ends : WindowEnds
-window-ends h ms e =
-    rw e (ap (λ m. elapsedReply m ms) (played-as-facts h) ∙ elapsed-answer (pastOf h) (good h) ms (elapsed-fits ms e))
+window-ends h ms = ap (λ m. elapsedReply m ms) (played-as-facts h) ∙ by (elapsedRefusal ms) refl
+  where
+    by :
+        (r : Option ℕ) →
+        elapsedRefusal ms ≡ r →
+        elapsedReply (recordOf (pastOf h)) ms ≡
+        unlessRefused r (ended (ltb (windowAt (pastOf h)) (windowAt (ifAccepted r (passed ms) ∷ pastOf h))))
+    by none e = elapsed-answer (pastOf h) (good h) ms (elapsed-fits ms e)
+    by (some n) e = elapsed-refused (recordOf (pastOf h)) n ms e

@@ -13,7 +13,7 @@ use Rattle.monitor.specs.Claims.{pageByFacts, settingsByFacts}
 use Rattle.monitor.specs.History.{History, OfBytes, play}
 use Rattle.monitor.specs.Record.{untouchedIf}
 use Rattle.monitor.specs.Refusals.{pageRefusal, settingsBackRefusal}
-use Rattle.monitor.specs.Report.{shown, pageOf, afterPage, pageReply, settingsOf, afterSettingsBack, settingsBackReply}
+use Rattle.monitor.specs.Report.{fieldsOf, pageOf, afterPage, pageReply, settingsOf, afterSettingsBack, settingsBackReply}
 use Rattle.monitor.specs.Settings.{encoded}
 use Rattle.monitor.proofs.histories.Given.{page-shows-facts, settings-come-back}
 
@@ -29,7 +29,7 @@ module _ (m : Monitor) (buffer after : List ℕ) where
   page-by-facts e h leads =
       e ∙ ap (untouchedIf (pageRefusal (length buffer)) buffer) (ap pageOf leads ∙ page-shows-facts h)
 
-  module _ (bytes : after ≡ cond (eqb (length buffer) 512) (pageBytes (shown m)) buffer) where
+  module _ (bytes : after ≡ cond (eqb (length buffer) 512) (pageBytes (fieldsOf m)) buffer) where
     pub page-written : true ≡ eqb (length buffer) 512 → PageSays done
     unfolding afterPage pageReply pageRefusal pageOf
     page-written fits =

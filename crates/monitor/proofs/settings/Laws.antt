@@ -11,7 +11,7 @@ use lib.Seq.{sets}
 use borrow.Author.Tests.{eq-eqb, ne-eqb}
 use Rattle.endian.specs.Bytes.{anySet}
 use Rattle.endian.specs.Stores.{lowFirst, fields}
-use Rattle.logpage.specs.Block.{bit}
+use Rattle.logpage.specs.Block.{flag}
 use Rattle.logpage.specs.declared.Settings.{Settings}
 use Rattle.monitor.specs.Answers.{done, refused, unlessRefused}
 use Rattle.monitor.specs.Settings.{decoded, encoded}
@@ -83,7 +83,7 @@ pub encodes :
     sets (replicate 4096 0) 0
     (fields (2 ∷ 1 ∷ 1 ∷ 1 ∷ 1 ∷ 2 ∷ 1 ∷ 2 ∷ 1 ∷ 1 ∷ [])
     (s .«timer_threshold» ∷ getD (s .thresholds) 0 0 ∷ getD (s .thresholds) 1 0 ∷ getD (s .thresholds) 2 0 ∷ getD (s .thresholds) 3 0
-    ∷ s .mode ∷ s .«minimum_window» ∷ s .trigger ∷ 0 ∷ bit (s .enabled) ∷ []))
+    ∷ s .mode ∷ s .«minimum_window» ∷ s .trigger ∷ 0 ∷ flag (s .enabled) ∷ []))
     ≡ encoded s
 unfolding fields lowFirst encoded
 encodes s = refl

@@ -6,7 +6,7 @@ use native.Mathlib.Omega.{arith}
 use borrow.Author.Needs.{needs}
 use lib.ListN.{drop, getD}
 use Rattle.logpage.specs.Block.{bits}
-use Rattle.logpage.proofs.block.Laws.{bits-none, bits-more, bit-below, bits-fit}
+use Rattle.logpage.proofs.block.Laws.{bits-none, bits-more, flag-below, bits-fit}
 use Rattle.logpage.proofs.block.unit_bits.Statement.{statement}
 use Rattle.logpage.proofs.block.unit_bits.Tie as tie
 
@@ -35,7 +35,7 @@ add-r : tie.Need-add-r Inv-loop μ-loop
 add-r c =
     let n = c .before .loop .n in
     let units = c .before .before .args .t1 in
-    omega (arith, bits-fit units n (search needs), bit-below (getD units (n - 1) false))
+    omega (arith, bits-fit units n (search needs), flag-below (getD units (n - 1) false))
 
 loop-less : tie.Need-loop-less Inv-loop μ-loop
 loop-less c = search needs
