@@ -1,4 +1,7 @@
 // Bytes as numbers, the lowest byte first. Knows nothing of the monitor.
+mod loads;
+
+pub use loads::load;
 ghost use mathlib.Core.Path.{_≡_};
 ghost use Rattle.endian.specs.Bytes.{word, anySet};
 
