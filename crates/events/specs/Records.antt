@@ -95,7 +95,7 @@ pub record Refusal : Type 0 where
   pub index : ℕ
   pub number : ℕ
 
-abbrev refusalAt : ℕ → Option ℕ → Option Refusal
+abbrev pub refusalAt : ℕ → Option ℕ → Option Refusal
 refusalAt i none = none
 refusalAt i (some n) = some (record { index = i; number = n })
 

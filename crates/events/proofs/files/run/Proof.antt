@@ -1,90 +1,117 @@
+-- `run`: before each record, none was refused and the monitor is what the records before it leave.
+use mathlib.Core.Path.{_≡_, refl, sym, ap, _∙_}
+use Prim.Native.Nat.{_-_}
+use borrow.Author.Needs.{needs}
+use Rattle.monitor.specs.Answers.{saysAnswer}
+use Rattle.events.specs.Records.{wholeRecords}
+use Rattle.events.proofs.records.Laws.{stands-for, completion-call, passed-over}
+use Rattle.events.proofs.files.Laws.{Ran, the-record, sixteen, started, went-on, stopped, ended}
 use Rattle.events.proofs.files.run.Statement.{statement}
 use Rattle.events.proofs.files.run.Tie as tie
-use Rattle.events.proofs.files.run.Reads as reads
-use Rattle.events.proofs.files.run.Lts as lts
-use Rattle.events.proofs.records.below.Reads as below-reads
-use Rattle.events.proofs.records.completion.Reads as records-completion-reads
-use Rattle.events.proofs.records.is_completion.Reads as is-completion-reads
-use Rattle.events.proofs.records.other.Reads as other-reads
-use Rattle.monitor.proofs.record.Monitor.completion.Reads as record-Monitor-completion-reads
 
 abbrev Inv-loop : tie.InvT-loop
-Inv-loop s monitor₀ i₀ monitor i = ?
+Inv-loop s monitor₀ i₀ monitor i = Ran monitor₀ s monitor i
 
 abbrev μ-loop : tie.MeasureT-loop
-μ-loop s monitor₀ i₀ monitor i = ?
+μ-loop s monitor₀ i₀ monitor i = wholeRecords s - i
 
 loop-holds : tie.Need-loop-holds Inv-loop μ-loop
-loop-holds c = ?
+loop-holds c = started _ _
 
 mul-from : tie.Need-mul-from Inv-loop μ-loop
-mul-from c = ?
+mul-from c = search needs
 
 add-r : tie.Need-add-r Inv-loop μ-loop
-add-r c = ?
+add-r c = search needs
 
 sub-r : tie.Need-sub-r Inv-loop μ-loop
-sub-r c = ?
+sub-r c = search needs
 
 part-r-start : tie.Need-part-r-start Inv-loop μ-loop
-part-r-start c = ?
+part-r-start c = search needs
 
 part-r-end : tie.Need-part-r-end Inv-loop μ-loop
-part-r-end c = ?
+part-r-end c = search needs
 
 is-completion-requires : tie.Need-is-completion-requires Inv-loop μ-loop
-is-completion-requires c κs = ?
+is-completion-requires c κs = sixteen _ (c .before .before .loop .i) (search needs)
 
 completion-requires : tie.Need-completion-requires Inv-loop μ-loop
-completion-requires c κs = ?
+completion-requires c κs = sixteen _ (c .before .before .before .before .loop .i) (search needs)
 
 below-requires : tie.Need-below-requires Inv-loop μ-loop
-below-requires c κs = ?
+below-requires c κs = search needs
 
 add-i : tie.Need-add-i Inv-loop μ-loop
-add-i c = ?
+add-i c = search needs
 
 loop-less : tie.Need-loop-less Inv-loop μ-loop
-loop-less c = ?
+loop-less c = search needs
 
 loop-again : tie.Need-loop-again Inv-loop μ-loop
-loop-again c = ?
+loop-again c =
+    let r = c .before .before .before in
+    let l = r .before .before .before .before .before .loop in
+    let made =
+        passed-over _ _ _ (sixteen _ (l .i) (search needs)) (sym (r .before .before .is-completion .ensures) ∙ r .before .if1 .taken)
+        (r .completion .ensures)
+        (c .before .below .ensures (c .if2 .taken))
+    in
+    went-on _ _ _ _ (l .i) _ (l .inv) (the-record _ (l .i)) (made .0) (made .1) (search needs)
 
 completion-requires-2 : tie.Need-completion-requires-2 Inv-loop μ-loop
-completion-requires-2 c κs = ?
+completion-requires-2 c κs = search needs
 
 add-i-2 : tie.Need-add-i-2 Inv-loop μ-loop
-add-i-2 c = ?
+add-i-2 c = search needs
 
 loop-less-2 : tie.Need-loop-less-2 Inv-loop μ-loop
-loop-less-2 c = ?
+loop-less-2 c = search needs
 
 loop-again-2 : tie.Need-loop-again-2 Inv-loop μ-loop
-loop-again-2 c = ?
+loop-again-2 c =
+    let r = c .before .before .before .before .before in
+    let l = r .before .before .before .before .before .loop in
+    let call =
+        completion-call _ (sixteen _ (l .i) (search needs)) (sym (r .before .before .is-completion .ensures) ∙ r .before .if1 .taken)
+    in
+    let made = stands-for _ _ _ _ _ call (rw (r .completion .ensures) at (c .before .completion2 .ensures .0)) refl in
+    went-on _ _ _ _ (l .i) _ (l .inv) (the-record _ (l .i)) (made .0) (made .1) (search needs)
 
 other-requires : tie.Need-other-requires Inv-loop μ-loop
-other-requires c κs = ?
+other-requires c κs =
+    (sixteen _ (c .before .before .before .before .loop .i) (search needs), sym (c .before .is-completion .ensures) ∙ c .if1 .left)
 
 enum-known-answer : tie.Need-enum-known-answer Inv-loop μ-loop
-enum-known-answer c = ?
+enum-known-answer c = search needs
 
 returns : tie.Need-returns Inv-loop μ-loop
-returns c = ?
+returns c =
+    let o = c .before .before .before .before in
+    let l = o .before .before .before .before .before .loop in
+    stopped _ _ _ _ (l .i) _ _ (l .inv) (the-record _ (l .i)) (o .other .ensures .0)
+    (sym (ap saysAnswer (c .before .answer .given .1)) ∙ o .other .ensures .1)
+    (search needs)
 
 enum-told : tie.Need-enum-told Inv-loop μ-loop
-enum-told c = ?
+enum-told c = search needs
 
 add-i-3 : tie.Need-add-i-3 Inv-loop μ-loop
-add-i-3 c = ?
+add-i-3 c = search needs
 
 loop-less-3 : tie.Need-loop-less-3 Inv-loop μ-loop
-loop-less-3 c = ?
+loop-less-3 c = search needs
 
 loop-again-3 : tie.Need-loop-again-3 Inv-loop μ-loop
-loop-again-3 c = ?
+loop-again-3 c =
+    let o = c .before .before .before in
+    let l = o .before .before .before .before .before .loop in
+    went-on _ _ _ _ (l .i) _ (l .inv) (the-record _ (l .i)) (o .other .ensures .0)
+    (sym (ap saysAnswer (c .enum-told .given .1)) ∙ o .other .ensures .1)
+    (search needs)
 
 returns-2 : tie.Need-returns-2 Inv-loop μ-loop
-returns-2 c = ?
+returns-2 c = ended _ _ _ (c .before .loop .i) (c .before .loop .inv) (search needs)
 
 pub run-spec : {M : Type 1} → statement M
 run-spec =

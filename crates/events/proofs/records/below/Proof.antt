@@ -1,4 +1,6 @@
 -- `below`: a threshold is reached where it is below the latency's increments of 5 ms.
+use borrow.Author.Tests.{leb-true}
+use Rattle.events.proofs.records.Laws.{counts-for-none}
 use borrow.Author.Needs.{needs}
 use Rattle.events.proofs.records.below.Statement.{statement}
 use Rattle.events.proofs.records.below.Tie as tie
@@ -37,7 +39,8 @@ returns-3 : tie.Need-returns-3
 returns-3 c e = cc
 
 returns-4 : tie.Need-returns-4
-returns-4 c e = ?
+returns-4 c e =
+    counts-for-none _ _ (search needs) (search needs) (search needs) (leb-true _ _ e)
 
 pub below-spec : {M : Type 1} → statement M
 below-spec =

@@ -1,9 +1,5 @@
 -- `clear`: both parts are loaded whole, and a number is zero where no byte is set.
-use mathlib.Core.Path.{sym, _∙_}
-use lib.Seq.{take-all}
-use borrow.Rule.Slice.PartAt.{part-to-end}
-use Rattle.endian.proofs.Numbers.{both-clear, first-set}
-use Rattle.events.proofs.records.Laws.{loaded, rest-short}
+use Rattle.events.proofs.records.Laws.{cleared, not-cleared}
 use borrow.Author.Needs.{needs}
 use Rattle.events.proofs.records.clear.Statement.{statement}
 use Rattle.events.proofs.records.clear.Tie as tie
@@ -34,13 +30,16 @@ load-requires-2 c κs = search needs
 
 returns : tie.Need-returns
 returns c =
-    rw (c .load2 .ensures, part-to-end)
-    (rw (take-all 8 _ (rest-short _ _ (search needs)))
-    (both-clear _ _ (sym (loaded _ _ (search needs)) ∙ (sym (c .before .before .load .ensures) ∙ c .before .if1 .taken))))
+    let l = c .before .before .before in
+    let a = l .before .before .before .args in
+    cleared (a .r .now) (a .from) (a .to) (a .rest) _ _ (l .load .ensures) (c .before .before .if1 .taken) (c .load2 .ensures)
+    (search needs)
+    (search needs)
 
 returns-2 : tie.Need-returns-2
 returns-2 c =
-    first-set _ _ (λ e. c .if1 .left (c .before .load .ensures ∙ (loaded _ _ (search needs) ∙ e)))
+    let a = c .before .before .before .before .args in
+    not-cleared (a .r .now) (a .from) (a .to) (a .rest) _ (c .before .load .ensures) (c .if1 .left) (search needs)
 
 pub clear-spec : {M : Type 1} → statement M
 clear-spec =

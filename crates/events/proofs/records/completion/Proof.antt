@@ -1,4 +1,6 @@
 -- `completion`: four bytes are loaded whole, and fit.
+use native.Mathlib.Omega.{arith}
+use lib.ListN.{drop}
 use Rattle.events.specs.Records.{completionOf}
 use Rattle.events.proofs.records.Laws.{loaded, fits}
 use borrow.Author.Needs.{needs}
@@ -21,11 +23,14 @@ load-requires : tie.Need-load-requires
 load-requires c κs = search needs
 
 cast-t9 : tie.Need-cast-t9
-cast-t9 c = rw (c .load .ensures) (record { fits = fits _ (λ k. ?) })
+cast-t9 c =
+    omega
+    (arith, fits (c .before .before .before .before .args .r .now) _ (c .load .ensures)
+    (λ k. omega (arith, c .before .before .shared-slice-known2 .given k)))
 
 returns : tie.Need-returns
 unfolding completionOf
-returns c = rw (c .load .ensures, loaded _ 4 (search needs))
+returns c = rw (c .load .ensures, loaded (drop 4 (c .before .before .before .before .args .r .now)) 4 (omega arith))
 
 pub completion-spec : {M : Type 1} → statement M
 completion-spec =

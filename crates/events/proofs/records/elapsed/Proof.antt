@@ -1,5 +1,7 @@
 -- `elapsed`: what the monitor answered, without what became of the window.
-use Rattle.monitor.specs.Record.{elapsedReply}
+use mathlib.Core.Path.{sym, ap, _∙_}
+use Rattle.monitor.specs.Answers.{saysElapsed}
+use Rattle.events.proofs.records.Laws.{turned-away, let-through}
 use borrow.Author.Needs.{needs}
 use Rattle.events.proofs.records.elapsed.Statement.{statement}
 use Rattle.events.proofs.records.elapsed.Tie as tie
@@ -17,16 +19,19 @@ enum-told-2 : tie.Need-enum-told-2
 enum-told-2 c = search needs
 
 returns : tie.Need-returns
-unfolding elapsedReply
-returns c = ?
+returns c =
+    let e = c .before .before .before .before .elapsed in
+    (e .ensures .0, turned-away _ _ _ (sym (ap saysElapsed (c .before .a .given .1)) ∙ e .ensures .1))
 
 returns-2 : tie.Need-returns-2
-unfolding elapsedReply
-returns-2 c = ?
+returns-2 c =
+    let e = c .before .before .before .elapsed in
+    (e .ensures .0, let-through _ _ _ (sym (ap saysElapsed (c .enum-told .given .1)) ∙ e .ensures .1))
 
 returns-3 : tie.Need-returns-3
-unfolding elapsedReply
-returns-3 c = ?
+returns-3 c =
+    let e = c .before .before .before .elapsed in
+    (e .ensures .0, let-through _ _ _ (sym (ap saysElapsed (c .enum-told2 .given .1)) ∙ e .ensures .1))
 
 pub elapsed-spec : {M : Type 1} → statement M
 elapsed-spec =

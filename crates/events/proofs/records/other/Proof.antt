@@ -1,15 +1,13 @@
+-- `other`: each kind with its unnamed bytes zero, and with one of them set; no kind.
+use mathlib.Core.Path.{refl, sym, _∙_}
+use native.Mathlib.Omega.{arith}
+use Rattle.monitor.specs.History.{settings, elapsed, clock, powerUp}
+use Rattle.monitor.specs.Record.{settingsReply, clockReply}
+use Rattle.events.specs.Records.{callOfKind}
+use Rattle.events.proofs.records.Laws.{fits, stands-for, stands-for-none, known-call, no-call, elapsed-call, clock-call, unknown-kind}
 use borrow.Author.Needs.{needs}
 use Rattle.events.proofs.records.other.Statement.{statement}
 use Rattle.events.proofs.records.other.Tie as tie
-use Rattle.events.proofs.records.other.Reads as reads
-use Rattle.events.proofs.records.other.Lts as lts
-use Rattle.endian.proofs.load.Reads as load-reads
-use Rattle.events.proofs.records.clear.Reads as clear-reads
-use Rattle.events.proofs.records.configured.Reads as configured-reads
-use Rattle.events.proofs.records.elapsed.Reads as elapsed-reads
-use Rattle.events.proofs.records.unknown.Reads as unknown-reads
-use Rattle.monitor.proofs.record.Monitor.power_up.Reads as power-up-reads
-use Rattle.monitor.proofs.record.Monitor.set_clock.Reads as set-clock-reads
 
 shared-slice-read-kind : tie.Need-shared-slice-read-kind
 shared-slice-read-kind c = search needs
@@ -39,7 +37,10 @@ load-requires : tie.Need-load-requires
 load-requires c κs = search needs
 
 cast-elapsed : tie.Need-cast-elapsed
-cast-elapsed c = ?
+cast-elapsed c =
+    let l = c .before .before .before .before .before in
+    omega
+    (arith, fits (l .before .before .args .r .now) _ (c .load .ensures) (λ k. omega (arith, l .shared-slice-known2 .given k)))
 
 elapsed-requires : tie.Need-elapsed-requires
 elapsed-requires c κs = search needs
@@ -81,31 +82,91 @@ unknown-requires-5 : tie.Need-unknown-requires-5
 unknown-requires-5 c κs = search needs
 
 returns : tie.Need-returns
-returns c = ?
+unfolding callOfKind settingsReply
+returns c =
+    let l = c .before .before .before in
+    stands-for _ _ _ _ _
+    (known-call _ (l .before .before .before .pre .0) 1 _ _ refl (l .match .keys1)
+    (sym (c .before .if1 .taken) ∙ c .before .before .clear .ensures))
+    (c .configured .ensures .0)
+    (c .configured .ensures .1)
 
 returns-2 : tie.Need-returns-2
-returns-2 c = ?
+unfolding callOfKind
+returns-2 c =
+    let l = c .before .before .before in
+    stands-for-none _ _ _ _
+    (no-call _ (l .before .before .before .pre .0) 1 _ _ refl (l .match .keys1)
+    (sym (c .before .if1 .left) ∙ c .before .before .clear .ensures))
+    (c .unknown .ensures .0)
+    (c .unknown .ensures .1)
 
 returns-3 : tie.Need-returns-3
-returns-3 c = ?
+returns-3 c =
+    let l = c .before .before .before .before .before in
+    stands-for _ _ _ _ _
+    (elapsed-call _ (l .before .before .before .pre .0) _ (c .before .load .ensures) (l .match .keys2)
+    (sym (c .before .before .before .if2 .taken) ∙ c .before .before .before .before .clear2 .ensures))
+    (c .elapsed .ensures .0)
+    (c .elapsed .ensures .1)
 
 returns-4 : tie.Need-returns-4
-returns-4 c = ?
+unfolding callOfKind
+returns-4 c =
+    let l = c .before .before .before in
+    stands-for-none _ _ _ _
+    (no-call _ (l .before .before .before .pre .0) 3 _ _ refl (l .match .keys2)
+    (sym (c .before .if2 .left) ∙ c .before .before .clear2 .ensures))
+    (c .unknown2 .ensures .0)
+    (c .unknown2 .ensures .1)
 
 returns-5 : tie.Need-returns-5
-returns-5 c = ?
+unfolding clockReply
+returns-5 c =
+    let l = c .before .before .before .before .before in
+    stands-for _ _ _ _ _
+    (clock-call _ (l .before .before .before .pre .0) _ (c .before .load2 .ensures) (l .match .keys3)
+    (sym (c .before .before .before .if3 .taken) ∙ c .before .before .before .before .clear3 .ensures))
+    (c .set-clock .ensures .0)
+    (c .set-clock .ensures .1)
 
 returns-6 : tie.Need-returns-6
-returns-6 c = ?
+unfolding callOfKind
+returns-6 c =
+    let l = c .before .before .before in
+    stands-for-none _ _ _ _
+    (no-call _ (l .before .before .before .pre .0) 4 _ _ refl (l .match .keys3)
+    (sym (c .before .if3 .left) ∙ c .before .before .clear3 .ensures))
+    (c .unknown3 .ensures .0)
+    (c .unknown3 .ensures .1)
 
 returns-7 : tie.Need-returns-7
-returns-7 c = ?
+unfolding callOfKind
+returns-7 c =
+    let l = c .before .before .before in
+    stands-for _ _ _ _ powerUp
+    (known-call _ (l .before .before .before .pre .0) 5 _ _ refl (l .match .keys4)
+    (sym (c .before .if4 .taken) ∙ c .before .before .clear4 .ensures))
+    (c .power-up .ensures .0)
+    (c .power-up .ensures .1)
 
 returns-8 : tie.Need-returns-8
-returns-8 c = ?
+unfolding callOfKind
+returns-8 c =
+    let l = c .before .before .before in
+    stands-for-none _ _ _ _
+    (no-call _ (l .before .before .before .pre .0) 5 _ _ refl (l .match .keys4)
+    (sym (c .before .if4 .left) ∙ c .before .before .clear4 .ensures))
+    (c .unknown4 .ensures .0)
+    (c .unknown4 .ensures .1)
 
 returns-9 : tie.Need-returns-9
-returns-9 c = ?
+returns-9 c =
+    let p = c .before .before .before .before .pre in
+    let n = c .before .match .rest in
+    stands-for-none _ _ _ _ (unknown-kind _ (p .0) (p .1) (n .0 .0 .0 .1) (n .0 .0 .1) (n .0 .1) (n .1))
+    (c .unknown5 .ensures .0)
+    (c .unknown5 .ensures .1)
 
 pub other-spec : {M : Type 1} → statement M
 other-spec =

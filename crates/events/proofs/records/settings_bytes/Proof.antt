@@ -3,8 +3,8 @@ use mathlib.Core.Path.{_≡_}
 use Prim.Native.Nat.{_≤_, _-_}
 use borrow.Author.Needs.{needs}
 use lib.ListN.{drop}
-use lib.Seq.{paste, paste-zero, paste-suc}
-use Rattle.events.specs.Records.{settingsOf}
+use lib.Seq.{paste, paste-zero}
+use Rattle.events.proofs.records.Laws.{one-byte, thirteen-bytes}
 use Rattle.events.proofs.records.settings_bytes.Statement.{statement}
 use Rattle.events.proofs.records.settings_bytes.Tie as tie
 
@@ -14,8 +14,11 @@ Inv-loop r s₀ i₀ s i = (i ≤ 13) × (s ≡ paste s₀ 0 (drop 1 r) i)
 abbrev μ-loop : tie.MeasureT-loop
 μ-loop r s₀ i₀ s i = 13 - i
 
+zeros-requires : tie.Need-zeros-requires Inv-loop μ-loop
+zeros-requires c κs = search needs
+
 loop-holds : tie.Need-loop-holds Inv-loop μ-loop
-loop-holds c = (search needs, paste-zero _ 0 _)
+loop-holds c = (search needs, paste-zero (c .zeros .result) 0 (drop 1 (c .before .before .args .r .now)))
 
 add-s : tie.Need-add-s Inv-loop μ-loop
 add-s c = search needs
@@ -33,10 +36,14 @@ loop-less : tie.Need-loop-less Inv-loop μ-loop
 loop-less c = search needs
 
 loop-again : tie.Need-loop-again Inv-loop μ-loop
-loop-again c = ?
+loop-again c =
+    let l = c .before .before .loop in
+    let r = c .before .before .before .before .before .args .r .now in
+    (search needs, one-byte _ r _ (l .i) (c .before .before .before .zeros .ensures) (l .inv .1) (search needs) (search needs))
 
 returns : tie.Need-returns Inv-loop μ-loop
-returns c = ?
+returns c =
+    thirteen-bytes _ _ _ (c .before .loop .i) (c .before .before .zeros .ensures) (c .before .loop .inv .1) (search needs)
 
 pub settings-bytes-spec : {M : Type 1} → statement M
 settings-bytes-spec =
@@ -44,6 +51,7 @@ settings-bytes-spec =
     (tie.spec
     Inv-loop
     μ-loop
+    zeros-requires
     loop-holds
     add-s
     shared-slice-read-s
