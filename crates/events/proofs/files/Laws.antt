@@ -11,8 +11,9 @@ use lib.ListN.{length, take, drop, length-take, length-drop}
 use lib.Seq.{take-all, drop-drop}
 use Rattle.monitor.specs.declared.record.Monitor.{Monitor}
 use Rattle.monitor.specs.Answers.{Reply, refused, done, unlessRefused}
-use Rattle.monitor.specs.History.{Call, settings, completion, elapsed, clock, powerUp, page, settingsBack, History, after, playFrom, refusalOf, found, andThen}
+use Rattle.monitor.specs.History.{Call, settings, completion, elapsed, clock, powerUp, page, settingsBack, History, after, playFrom, refusalOf, found, andThen, orElse}
 use Rattle.monitor.specs.Record.{afterSettings, afterElapsed, afterClock}
+use Rattle.events.proofs.records.Laws.{Made}
 use Rattle.events.specs.Records.{callOf, recordRefusal, recordReply, afterRecord, recordAt, wholeRecords, callsBefore, historyOf}
 use Rattle.events.specs.Records.{Refusal, refusalAt, firstRefusedFrom, firstRefused, acceptedRecords}
 
@@ -134,3 +135,131 @@ module _ (m : Monitor) (s : List ℕ) where
       let none-left : wholeRecords s - i ≡ 0 = omega arith in
       let first : firstRefused s ≡ none = sym (rw none-left at rest) in
       (rw (first, ← all) played, sym first)
+
+-- a file of one record
+which : (o : Option ℕ) (p : Refusal) → some p ≡ refusalAt 0 o → o ≡ some (p .number)
+which none p e = cc
+which (some k) p e =
+    let same : p .number ≡ k = ap (found 0 (λ (x : Refusal). x .number)) e in
+    ap some (sym same)
+
+at-zero : (o : Option ℕ) (p : Refusal) → some p ≡ refusalAt 0 o → p .index ≡ 0
+at-zero none p e = cc
+at-zero (some k) p e = ap (found 0 (λ (x : Refusal). x .index)) e
+
+no-refusal : (o : Option ℕ) → none ≡ refusalAt 0 o → o ≡ none
+no-refusal none e = refl
+no-refusal (some k) e = cc
+
+module _ (m : Monitor) (r : List ℕ) (next : Monitor) (long : length r ≡ 16) where
+  itself : recordAt r 0 ≡ r
+  itself = take-all 16 r (omega arith)
+
+  only : firstRefused r ≡ refusalAt 0 (recordRefusal r)
+  unfolding firstRefused firstRefusedFrom
+  only =
+      let one : wholeRecords r ≡ 1 = omega arith in
+      rw (one, itself) (by (recordRefusal r))
+    where
+      by : (o : Option ℕ) → orElse (refusalAt 0 o) none ≡ refusalAt 0 o
+      by none = refl
+      by (some k) = refl
+
+  pub refused-alone :
+      (p : Refusal) →
+      next ≡ playFrom m (callsBefore r (acceptedRecords r)) →
+      some p ≡ firstRefused r →
+      Made m r next (refused (p .number))
+  unfolding acceptedRecords callsBefore playFrom recordReply
+  refused-alone p en h =
+      let refusal : recordRefusal r ≡ some (p .number) = which (recordRefusal r) p (h ∙ only) in
+      let first : acceptedRecords r ≡ 0 = rw (← h) (at-zero (recordRefusal r) p (h ∙ only)) in
+      ((rw first at en) ∙ sym (untouched m r (p .number) refusal), rw refusal)
+
+  pub accepted-alone :
+      next ≡ playFrom m (callsBefore r (acceptedRecords r)) →
+      none ≡ firstRefused r →
+      Made m r next done
+  unfolding acceptedRecords callsBefore afterRecord recordReply
+  accepted-alone en h =
+      let refusal : recordRefusal r ≡ none = no-refusal (recordRefusal r) (h ∙ only) in
+      let one : wholeRecords r ≡ 1 = omega arith in
+      let all : acceptedRecords r ≡ 1 = rw (← h) one in
+      (rw itself at (rw all at en), rw refusal)
+
+-- what the first refused record is
+abbrev Found : List ℕ → (i n : ℕ) → Refusal → Type 0
+Found s i n p = (p .index < i + n) × (recordRefusal (recordAt s (p .index)) ≡ some (p .number))
+
+found-at : (s : List ℕ) (n i : ℕ) (p : Refusal) → some p ≡ firstRefusedFrom s i n → Found s i n p
+unfolding firstRefusedFrom
+found-at s zero i p e = let z : _≡_ {A = ℕ} 0 1 = cc in absurd (omega arith)
+found-at s (suc n) i p e = by (recordRefusal (recordAt s i)) refl e (found-at s n (suc i) p)
+  where
+    by :
+        (o : Option ℕ) →
+        recordRefusal (recordAt s i) ≡ o →
+        some p ≡ orElse (refusalAt i o) (firstRefusedFrom s (suc i) n) →
+        (some p ≡ firstRefusedFrom s (suc i) n → Found s (suc i) n p) →
+        Found s i (suc n) p
+    by none eo e later = (omega (arith, later e .0), later e .1)
+    by (some k) eo e later =
+        let index-is : p .index ≡ i = ap (found 0 (λ (x : Refusal). x .index)) e in
+        let number-is : p .number ≡ k = ap (found 0 (λ (x : Refusal). x .number)) e in
+        (omega arith, rw (index-is, number-is) eo)
+
+-- the records of a file's rest are the file's own
+rest-record : (s : List ℕ) (i k : ℕ) → recordAt (drop (16 * i) s) k ≡ recordAt s (i + k)
+rest-record s i k =
+    let further : 16 * i + 16 * k ≡ 16 * (i + k) = omega arith in
+    rw (drop-drop (16 * k) (16 * i) s, further)
+
+pub composed :
+    (m : Monitor) (s : List ℕ) (i k : ℕ) →
+    playFrom (playFrom m (callsBefore s i)) (callsBefore (drop (16 * i) s) k) ≡ playFrom m (callsBefore s (i + k))
+unfolding callsBefore playFrom
+composed m s i zero = rw (add-zero i)
+composed m s i (suc k) =
+    rw (add-suc i k, rest-record s i k)
+    (then-same _ _ (callsBefore (drop (16 * i) s) k) (callsBefore s (i + k)) (callOf (recordAt s (i + k))) (composed m s i k))
+
+skip :
+    (m : Monitor) (s : List ℕ) (j n : ℕ) →
+    recordRefusal (recordAt s j) ≡ some n →
+    playFrom m (callsBefore s (suc j)) ≡ playFrom m (callsBefore s j)
+unfolding callsBefore afterRecord
+skip m s j n e =
+    sym (then-one m (callsBefore s j) (callOf (recordAt s j))) ∙ untouched (playFrom m (callsBefore s j)) (recordAt s j) n e
+
+-- where a replay is, before record i
+abbrev pub Replayed : Monitor → List ℕ → Monitor → ℕ → Type 0
+Replayed m s monitor i = (i ≤ wholeRecords s) × (monitor ≡ playFrom m (callsBefore s i))
+
+module _ (m : Monitor) (s : List ℕ) (monitor next : Monitor) (i : ℕ) where
+  -- past a refused record
+  pub skipped :
+      (p : Refusal) →
+      Replayed m s monitor i →
+      Stopped monitor (drop (16 * i) s) next (some p) →
+      Replayed m s next (i + p .index + 1)
+  unfolding acceptedRecords firstRefused
+  skipped p (le, played) (en, h) =
+      let t = drop (16 * i) s in
+      let f = found-at t (wholeRecords t) 0 p h in
+      let here : recordRefusal (recordAt s (i + p .index)) ≡ some (p .number) = rw (rest-record s i (p .index)) at (f .1) in
+      let stop-at : acceptedRecords t ≡ p .index = rw (← h) refl in
+      (omega (arith, f .0, length-drop (16 * i) s),
+        rw (add-one (i + p .index))
+        ((rw (stop-at, played) at en) ∙ (composed m s i (p .index) ∙ sym (skip m s (i + p .index) (p .number) here))))
+
+  -- to the end
+  pub replayed :
+      Replayed m s monitor i →
+      Stopped monitor (drop (16 * i) s) next none →
+      next ≡ playFrom m (historyOf s)
+  unfolding acceptedRecords historyOf
+  replayed (le, played) (en, h) =
+      let t = drop (16 * i) s in
+      let all : acceptedRecords t ≡ wholeRecords t = rw (← h) refl in
+      let sum : i + wholeRecords t ≡ wholeRecords s = omega (arith, length-drop (16 * i) s) in
+      (rw (all, played) at en) ∙ (rw sum at (composed m s i (wholeRecords t)))

@@ -118,6 +118,10 @@ not-known u c h = by (anySet u) h
     by true h = refl
     by false h = cc
 
+pub not-sixteen : (r : List ℕ) → (length r ≡ 16 → ⊥) → callOf r ≡ none
+unfolding callOf
+not-sixteen r n = rw (ne-eqb (length r) 16 n)
+
 module _ (r : List ℕ) (sixteen : length r ≡ 16) where
   by-kind : (k : ℕ) → kindOf r ≡ k → callOf r ≡ callOfKind k r
   unfolding callOf
