@@ -1,5 +1,7 @@
-// Reads standard input in records of 16 bytes, applies them to a new monitor, prints those that are refused, and then
-// the page.
+// Reads standard input in records of 16 bytes, brings them to a new monitor, prints those that are refused, and then the
+// page.
+ghost use Prim.Native.Nat.{_+_, _*_, _≤_, _<_, _^_};
+ghost use lib.ListN.{length};
 use events::Place;
 use monitor::Answer;
 use monitor::Monitor;
@@ -8,11 +10,12 @@ use monitor::Monitor;
 const TURNS: u64 = 1_099_511_627_776;
 
 // The monitor after a block of input, and the bytes that the block had.
-struct Block {
+struct Taken {
     monitor: Monitor,
     n: usize,
 }
 
+// The line of a refused record.
 fn refused(index: u64, number: u8) {
     io::write_all(1, b"refused ");
     io::print_decimal(1, index);
@@ -21,8 +24,11 @@ fn refused(index: u64, number: u8) {
     io::write_all(1, b"\n");
 }
 
-// The records of a block, the first of them record `base` of the input.
-fn records(m: Monitor, s: &[u8], base: u64) -> Monitor {
+// The records of a block, whose first is record `base` of the input.
+fn records(m: Monitor, s: &[u8], base: u64) -> Monitor
+    requires { ⌜ base < 2 ^ 60 ⌝ }
+    requires { ⌜ length (now s) ≤ 65536 ⌝ }
+{
     let mut monitor = m;
     let mut i = 0;
     loop {
@@ -32,8 +38,9 @@ fn records(m: Monitor, s: &[u8], base: u64) -> Monitor {
         let at = stop.at;
         match at {
             Place::Refused { index, number } => {
-                refused(base + (i + index) as u64, number);
-                i = i + index + 1;
+                i = i + index;
+                refused(base + i as u64, number);
+                i = i + 1;
             }
             Place::End => {
                 break;
@@ -43,12 +50,15 @@ fn records(m: Monitor, s: &[u8], base: u64) -> Monitor {
     monitor
 }
 
-// One block of the input: less than 64 KiB at its end only.
-fn block(m: Monitor, base: u64) -> Block {
+// One block of the input; it is less than 64 KiB at the input's end only.
+fn block(m: Monitor, base: u64) -> Taken
+    requires { ⌜ base < 2 ^ 60 ⌝ }
+    ensures { λ b. ⌜ b .n ≤ 65536 ⌝ }
+{
     let mut buffer = io::large_buffer();
     let n = io::read_full(0, &mut buffer);
     let monitor = records(m, &buffer[..n], base);
-    Block { monitor, n }
+    Taken { monitor, n }
 }
 
 fn main() {
@@ -65,7 +75,10 @@ fn main() {
     }
     let end = events::left_over(n);
     match end {
-        Answer::Refused(number) => refused(whole, number),
+        Answer::Refused(number) => {
+            refused(whole, number);
+        }
         Answer::Done => {}
     }
+    // Here the page is printed.
 }

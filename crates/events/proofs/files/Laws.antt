@@ -188,10 +188,10 @@ module _ (m : Monitor) (r : List ℕ) (next : Monitor) (long : length r ≡ 16) 
       (rw itself at (rw all at en), rw refusal)
 
 -- what the first refused record is
-abbrev Found : List ℕ → (i n : ℕ) → Refusal → Type 0
+abbrev pub Found : List ℕ → (i n : ℕ) → Refusal → Type 0
 Found s i n p = (p .index < i + n) × (recordRefusal (recordAt s (p .index)) ≡ some (p .number))
 
-found-at : (s : List ℕ) (n i : ℕ) (p : Refusal) → some p ≡ firstRefusedFrom s i n → Found s i n p
+pub found-at : (s : List ℕ) (n i : ℕ) (p : Refusal) → some p ≡ firstRefusedFrom s i n → Found s i n p
 unfolding firstRefusedFrom
 found-at s zero i p e = let z : _≡_ {A = ℕ} 0 1 = cc in absurd (omega arith)
 found-at s (suc n) i p e = by (recordRefusal (recordAt s i)) refl e (found-at s n (suc i) p)
