@@ -1,7 +1,7 @@
 // Loads: the number that bytes make, the lowest byte first.
 ghost use mathlib.Core.Path.{_≡_};
-ghost use Prim.Native.Nat.{_≤_, min};
-ghost use lib.ListN.{length, take};
+ghost use Prim.Native.Nat.{min};
+ghost use lib.ListN.{take};
 ghost use Rattle.endian.specs.Loads.{number};
 
 fn wide(b: u8) -> u64

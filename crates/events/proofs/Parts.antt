@@ -1,9 +1,9 @@
 -- A file may be replayed in parts.
 use mathlib.Core.Path.{_≡_, refl, sym}
 use mathlib.Core.List.{List, _++_}
-use Prim.Native.Nat.{ℕ, zero, suc, _+_, _*_, _/_, _≤_}
+use Prim.Native.Nat.{ℕ, zero, suc, _+_, _*_, _≤_}
 use native.Mathlib.Omega.{arith}
-use lib.ListN.{length, take, drop, length-append, length-drop}
+use lib.ListN.{length, drop, length-append, length-drop}
 use lib.Seq.{drop-at, drop-append-le, take-append-le}
 use Rattle.events.specs.Records.{recordAt, wholeRecords, callsBefore, historyOf}
 use Rattle.events.specs.Claims.{InParts}

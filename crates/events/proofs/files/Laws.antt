@@ -2,15 +2,14 @@
 use mathlib.Core.Path.{_≡_, refl, sym, ap, _∙_}
 use mathlib.Core.List.{List, []}
 use mathlib.Core.Option.{Option, none, some}
-use Prim.Native.Nat.{ℕ, zero, suc, _+_, _-_, _*_, _/_, _<_, _≤_}
+use Prim.Native.Nat.{ℕ, zero, suc, _+_, _-_, _*_, _<_, _≤_}
 use native.Mathlib.Nat.{sub-zero, add-zero, add-suc}
 use native.Mathlib.Numerals.{add-one}
 use native.Mathlib.Omega.{arith}
-use borrow.Author.Tests.{ne-eqb}
 use lib.ListN.{length, take, drop, length-take, length-drop}
 use lib.Seq.{take-all, drop-drop}
 use Rattle.monitor.specs.declared.record.Monitor.{Monitor}
-use Rattle.monitor.specs.Answers.{Reply, refused, done, unlessRefused}
+use Rattle.monitor.specs.Answers.{refused, done, unlessRefused}
 use Rattle.monitor.specs.History.{Call, settings, completion, elapsed, clock, powerUp, page, settingsBack, History, after, playFrom, refusalOf, found, andThen, orElse}
 use Rattle.monitor.specs.Record.{afterSettings, afterElapsed, afterClock}
 use Rattle.events.proofs.records.Laws.{Made}
@@ -105,10 +104,11 @@ module _ (m : Monitor) (s : List ℕ) where
     went-on (le, played, rest) er en ed h =
         let here : recordRefusal (recordAt s i) ≡ none = rw er at (not-refused (recordRefusal r) ed) in
         let more : wholeRecords s - i ≡ suc (wholeRecords s - suc i) = omega arith in
-        rw (add-one i)
-        (omega arith,
+        rw (add-one i) (
+          omega arith,
           rw (en, er, played) (then-one m (callsBefore s i) (callOf (recordAt s i))),
-          sym (pass s i (wholeRecords s - suc i) here) ∙ (rw more at rest))
+          sym (pass s i (wholeRecords s - suc i) here) ∙ (rw more at rest),
+        )
 
     -- a refused one
     pub stopped :
@@ -247,10 +247,11 @@ module _ (m : Monitor) (s : List ℕ) (monitor next : Monitor) (i : ℕ) where
       let t = drop (16 * i) s in
       let f = found-at t (wholeRecords t) 0 p h in
       let here : recordRefusal (recordAt s (i + p .index)) ≡ some (p .number) = rw (rest-record s i (p .index)) at (f .1) in
-      let stop-at : acceptedRecords t ≡ p .index = rw (← h) refl in
-      (omega (arith, f .0, length-drop (16 * i) s),
+      let stop-at : acceptedRecords t ≡ p .index = rw (← h) refl in (
+        omega (arith, f .0, length-drop (16 * i) s),
         rw (add-one (i + p .index))
-        ((rw (stop-at, played) at en) ∙ (composed m s i (p .index) ∙ sym (skip m s (i + p .index) (p .number) here))))
+            ((rw (stop-at, played) at en) ∙ (composed m s i (p .index) ∙ sym (skip m s (i + p .index) (p .number) here))),
+      )
 
   -- to the end
   pub replayed :

@@ -1,5 +1,5 @@
 -- `run`: before each record, none was refused and the monitor is what the records before it leave.
-use mathlib.Core.Path.{_≡_, refl, sym, ap, _∙_}
+use mathlib.Core.Path.{refl, sym, ap, _∙_}
 use Prim.Native.Nat.{_-_}
 use borrow.Author.Needs.{needs}
 use Rattle.monitor.specs.Answers.{saysAnswer}
@@ -53,9 +53,9 @@ loop-again c =
     let r = c .before .before .before in
     let l = r .before .before .before .before .before .loop in
     let made =
-        passed-over _ _ _ (sixteen _ (l .i) (search needs)) (sym (r .before .before .is-completion .ensures) ∙ r .before .if1 .taken)
-        (r .completion .ensures)
-        (c .before .below .ensures (c .if2 .taken))
+    passed-over _ _ _ (sixteen _ (l .i) (search needs)) (sym (r .before .before .is-completion .ensures) ∙ r .before .if1 .taken)
+    (r .completion .ensures)
+    (c .before .below .ensures (c .if2 .taken))
     in
     went-on _ _ _ _ (l .i) _ (l .inv) (the-record _ (l .i)) (made .0) (made .1) (search needs)
 
@@ -73,7 +73,7 @@ loop-again-2 c =
     let r = c .before .before .before .before .before in
     let l = r .before .before .before .before .before .loop in
     let call =
-        completion-call _ (sixteen _ (l .i) (search needs)) (sym (r .before .before .is-completion .ensures) ∙ r .before .if1 .taken)
+    completion-call _ (sixteen _ (l .i) (search needs)) (sym (r .before .before .is-completion .ensures) ∙ r .before .if1 .taken)
     in
     let made = stands-for _ _ _ _ _ call (rw (r .completion .ensures) at (c .before .completion2 .ensures .0)) refl in
     went-on _ _ _ _ (l .i) _ (l .inv) (the-record _ (l .i)) (made .0) (made .1) (search needs)

@@ -24,9 +24,11 @@ load-requires c κs = search needs
 
 cast-t9 : tie.Need-cast-t9
 cast-t9 c =
-    omega
-    (arith, fits (c .before .before .before .before .args .r .now) _ (c .load .ensures)
-    (λ k. omega (arith, c .before .before .shared-slice-known2 .given k)))
+    omega (
+      arith,
+      fits (c .before .before .before .before .args .r .now) _ (c .load .ensures)
+          (λ k. omega (arith, c .before .before .shared-slice-known2 .given k)),
+    )
 
 returns : tie.Need-returns
 unfolding completionOf

@@ -1,7 +1,7 @@
 -- `other`: each kind with its unnamed bytes zero, and with one of them set; no kind.
 use mathlib.Core.Path.{refl, sym, _∙_}
 use native.Mathlib.Omega.{arith}
-use Rattle.monitor.specs.History.{settings, elapsed, clock, powerUp}
+use Rattle.monitor.specs.History.{elapsed, powerUp}
 use Rattle.monitor.specs.Record.{settingsReply, clockReply}
 use Rattle.events.specs.Records.{callOfKind}
 use Rattle.events.proofs.records.Laws.{fits, stands-for, stands-for-none, known-call, no-call, elapsed-call, clock-call, unknown-kind}
