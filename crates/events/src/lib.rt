@@ -1,5 +1,13 @@
-// The page program's work on bytes: the text of the page.
+// Event files: records of 16 bytes, the calls that they stand for, what these make of a monitor, and the page's text.
+mod files;
+mod records;
 mod text;
 
+pub use files::Place;
+pub use files::Stop;
+pub use files::apply;
+pub use files::left_over;
+pub use files::replay;
+pub use files::run;
 pub use text::Text;
 pub use text::page_text;
