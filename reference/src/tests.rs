@@ -1,0 +1,180 @@
+use crate::events::{printed, read, Events, Preset, Refused};
+use crate::facts::facts;
+use crate::groups::{example, groups};
+use crate::history::{refusal, Call, Settings};
+use crate::page::{page, settings_back};
+use crate::vectors::{self, Vectors};
+
+const READ: u8 = 0x02;
+
+fn base() -> Settings {
+    Settings { timer_threshold: 2, thresholds: [0, 1, 3, 9], enable: 1, ..Settings::default() }
+}
+
+fn page_of(file: Events) -> [u8; 512] {
+    page(&read(&file.0, &[]).0, 512).unwrap()
+}
+
+fn number(page: &[u8; 512], place: usize, bytes: usize) -> u64 {
+    page[place..place + bytes].iter().rev().fold(0, |n, &b| n << 8 | u64::from(b))
+}
+
+/// The Read counters of the active window, by bucket.
+fn reads(page: &[u8; 512]) -> [u64; 4] {
+    [44, 60, 76, 92].map(|place| number(page, place, 4))
+}
+
+#[test]
+fn printed_example() {
+    let expected = "\
+000: 01000000020000010309000000000000
+020: 00000000000000000000000001000000
+060: FFFFFFFFFFFFFFFFFFFFFFFFFFFFFFFF
+070: FFFFFFFFFFFFFFFFFFFFFFFFFFFFFFFF
+080: FFFFFFFFFFFFFFFFFFFFFFFFFFFFFFFF
+090: FFFFFFFFFFFFFFFFFFFFFFFFFFFFFFFF
+0A0: FFFFFFFFFFFFFFFFFFFFFFFFFFFFFFFF
+0B0: FFFFFFFFFFFFFFFFE803000000000000
+0D0: 00000000000007000000000000000000
+130: FFFFFFFFFFFFFFFFFFFFFFFFFFFFFFFF
+140: FFFFFFFFFFFFFFFFFFFFFFFFFFFFFFFF
+150: FFFFFFFFFFFFFFFFFFFFFFFFFFFFFFFF
+160: FFFFFFFFFFFFFFFFFFFFFFFFFFFFFFFF
+170: FFFFFFFFFFFFFFFFFFFFFFFFFFFFFFFF
+180: FFFFFFFFFFFFFFFFFFFFFFFFFFFFFFFF
+1C0: 01000700E80300000000000000000100
+";
+    assert_eq!(printed(&example().0), expected);
+}
+
+#[test]
+fn p1_to_p6_buckets() {
+    let cases = [
+        (4_999, [0, 0, 0, 0]),
+        (5_000, [1, 0, 0, 0]),
+        (9_999, [1, 0, 0, 0]),
+        (10_000, [0, 1, 0, 0]),
+        (49_999, [0, 0, 1, 0]),
+        (50_000, [0, 0, 0, 1]),
+    ];
+    for (us, expected) in cases {
+        assert_eq!(reads(&page_of(Events::default().settings(base()).completion(READ, us))), expected);
+    }
+}
+
+#[test]
+fn p7_p8_measured_latency() {
+    let file = Events::default().settings(base());
+    assert_eq!(number(&page_of(file.clone().completion(READ, u32::MAX)), 196, 2), 65_535);
+    assert_eq!(number(&page_of(file.completion(READ, 7_999)), 214, 2), 7);
+}
+
+#[test]
+fn p9_equal_thresholds() {
+    let settings = Settings { thresholds: [1, 1, 3, 9], ..base() };
+    let file = Events::default().settings(settings).completion(READ, 10_000);
+    assert_eq!(reads(&page_of(file)), [0, 1, 0, 0]);
+}
+
+#[test]
+fn p10_window_end() {
+    let settings = Settings { timer_threshold: 1, ..base() };
+    let file = Events::default().settings(settings).completion(READ, 5_000).elapsed(299_999);
+    let before = page_of(file.clone());
+    let after = page_of(file.elapsed(1));
+    assert_eq!((number(&before, 44, 4), number(&before, 252, 4)), (1, 0));
+    assert_eq!((number(&after, 44, 4), number(&after, 252, 4)), (0, 1));
+}
+
+#[test]
+fn p11_p12_stamp_places() {
+    let file = Events::default().settings(base()).elapsed(0x1234);
+    assert_eq!(number(&page_of(file.clone().completion(READ, 50_000)), 112, 8), 0x1234);
+    assert_eq!(number(&page_of(file.completion(0x09, 5_000)), 168, 8), 0x1234);
+}
+
+#[test]
+fn version_and_guid() {
+    let page = page_of(Events::default());
+    assert_eq!(number(&page, 494, 2), 4);
+    assert_eq!((page[496], page[511]), (0x92, 0x85));
+}
+
+#[test]
+fn edges() {
+    let falling = Settings { thresholds: [2, 1, 3, 9], ..base() };
+    assert_eq!(refusal(&Call::Settings(falling.to_buffer())), Some(5));
+    assert_eq!(page(&[], 511), Err(9));
+    assert_eq!(page(&[], 513), Err(9));
+    assert_eq!(settings_back(&[], 4_095), Err(10));
+    let discard = [Call::Settings(Settings { discard: 1, ..base() }.to_buffer())];
+    assert_eq!(settings_back(&discard, 4_096), Ok(base().to_bytes()));
+}
+
+#[test]
+fn part_of_an_increment_is_kept() {
+    let settings = Settings { timer_threshold: 1, ..base() };
+    let file = Events::default().settings(settings).elapsed(200_000).elapsed(200_000);
+    let file = file.completion(READ, 5_000).elapsed(200_000);
+    assert_eq!(number(&page_of(file), 252, 4), 1);
+}
+
+#[test]
+fn minimum_window_is_not_the_clocks() {
+    let settings = Settings { mode: 0x0FFF, minimum_window: 1, ..base() };
+    let file = Events::default().settings(settings).timestamp(1_000_000).completion(READ, 5_000).timestamp(7);
+    let early = page_of(file.clone().elapsed(99).completion(READ, 6_000));
+    let late = page_of(file.elapsed(100).completion(READ, 6_000));
+    assert_eq!((number(&early, 184, 8), number(&early, 214, 2)), (1_000_000, 5));
+    assert_eq!((number(&late, 184, 8), number(&late, 214, 2)), (107, 6));
+}
+
+#[test]
+fn refused_records() {
+    let file = example().raw(&[0; 16]).elapsed(300_001).raw(&[2, 2]);
+    let expected = [(3, 11), (4, 7), (5, 12)].map(|(record, number)| Refused { record, number });
+    assert_eq!(read(&file.0, &[]).1, expected);
+    assert!(printed(&file.0).starts_with("refused 3 11\nrefused 4 7\nrefused 5 12\n000: 01"));
+}
+
+#[test]
+fn counter_at_its_top() {
+    let file =
+        Events::default().settings(base()).completion(READ, 5_000).completion(READ, 5_000).completion(READ, 5_000);
+    for (value, shown) in [(u32::MAX - 2, u32::MAX), (u32::MAX - 1, u32::MAX), (u32::MAX, u32::MAX), (7, 9)] {
+        let preset = Preset { counter: 0, value, record: 2 };
+        let page = page(&read(&file.0, &[preset]).0, 512).unwrap();
+        assert_eq!(number(&page, 44, 4), u64::from(shown));
+    }
+}
+
+#[test]
+fn vectors_are_in_the_format() {
+    let file = vectors::write(&groups());
+    assert!(file.len() < 2_000_000);
+    assert!(vectors::check(&file).is_ok());
+    assert!(vectors::check(&file[..file.len() - 1]).is_err());
+}
+
+/// A preset's counter has been counted in its window, and the monitor is enabled there.
+#[test]
+fn presets_are_in_place() {
+    for group in groups() {
+        let Vectors::Events(vectors) = group.vectors else { continue };
+        for vector in vectors {
+            for preset in &vector.presets {
+                let before = facts(&read(&vector.file[..16 * preset.record as usize], &vector.presets).0);
+                assert!(before.settings.enabled());
+                assert!(before.active_window[usize::from(preset.counter)].count > 0);
+                assert!(preset.value >= u32::MAX - 2);
+            }
+        }
+    }
+}
+
+/// The files kept in the repository are the ones that this program writes.
+#[test]
+fn kept_files() {
+    assert!(vectors::write(&groups()) == include_bytes!("../../crates/vectors/stdin"));
+    assert_eq!(example().0, include_bytes!("../../samples/example.events"));
+}

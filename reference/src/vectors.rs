@@ -1,0 +1,249 @@
+//! The file of vectors: its writer and its checker.
+//!
+//! Numbers of several bytes have the lowest byte first. The file is a sequence of groups and then a byte 'E'. A group is
+//! - a byte 'G', a byte with the length of its name, the name (lower case words), and the number of its vectors (u32);
+//! - its vectors. In a group whose name starts with "settings" they are settings vectors, else event vectors.
+//!
+//! An event vector, played on a new monitor, is
+//! - the length of an event file (u32, at most 65,536) and its bytes, also 1 to 15 after the last whole record;
+//! - the number of presets (u8), and for each a counter number (u8, 0 to 11), a value (u32) and a record number (u32):
+//!   just before that record is read, the counter of the active window is set to the value. Records count from 0, the
+//!   record is a whole one of the file, presets stand in order of it, the counter has been counted in the window, and
+//!   the monitor is enabled;
+//! - the number of refusals (u16), and for each the record number (u32) and the refusal (u8), in order. A refusal by 12
+//!   has the number of whole records;
+//! - the length of the buffer lent for the page (u16, at most 4,200) and the refusal (u8), 9 or 0; after 0 follow the
+//!   512 bytes of the page;
+//! - the length of the buffer lent for settings back (u16, at most 4,200) and the refusal (u8), 10 or 0; after 0 follow
+//!   bytes 0 to 12 of the settings, and all others are zero.
+//!
+//! A settings vector, given to a new monitor, is
+//! - the length of the settings (u16, at most 4,200), all zero but for patches: their number (u8), and for each the
+//!   place (u16, below the length) and the byte (u8);
+//! - the refusal (u8), 1 to 6 or 0; after 0 follow bytes 0 to 12 of the settings given back afterwards, and all others
+//!   are zero.
+
+use crate::events::{read, Preset, Refused, RECORD};
+use crate::history::{Call, PAGE_LENGTH};
+use crate::page::{page, settings_back};
+
+pub const LONGEST_FILE: usize = 65_536;
+pub const LONGEST_BUFFER: u16 = 4_200;
+
+/// An event file and the lengths of the buffers that are lent after it.
+pub struct EventVector {
+    pub file: Vec<u8>,
+    pub presets: Vec<Preset>,
+    pub page_buffer: u16,
+    pub back_buffer: u16,
+}
+
+/// Settings: a length, and the bytes that are not zero.
+pub struct SettingsVector {
+    pub length: u16,
+    pub patches: Vec<(u16, u8)>,
+}
+
+pub enum Vectors {
+    Events(Vec<EventVector>),
+    Settings(Vec<SettingsVector>),
+}
+
+pub struct Group {
+    pub name: &'static str,
+    pub vectors: Vectors,
+}
+
+/// The whole file, with all results computed.
+pub fn write(groups: &[Group]) -> Vec<u8> {
+    let mut out = Vec::new();
+    for group in groups {
+        out.push(b'G');
+        out.push(group.name.len() as u8);
+        out.extend(group.name.as_bytes());
+        match &group.vectors {
+            Vectors::Events(vectors) => {
+                out.extend((vectors.len() as u32).to_le_bytes());
+                vectors.iter().for_each(|v| write_events(&mut out, v));
+            }
+            Vectors::Settings(vectors) => {
+                out.extend((vectors.len() as u32).to_le_bytes());
+                vectors.iter().for_each(|v| write_settings(&mut out, v));
+            }
+        }
+    }
+    out.push(b'E');
+    out
+}
+
+fn write_events(out: &mut Vec<u8>, vector: &EventVector) {
+    let (history, refused) = read(&vector.file, &vector.presets);
+    out.extend((vector.file.len() as u32).to_le_bytes());
+    out.extend(&vector.file);
+    out.push(vector.presets.len() as u8);
+    for preset in &vector.presets {
+        out.push(preset.counter);
+        out.extend(preset.value.to_le_bytes());
+        out.extend(preset.record.to_le_bytes());
+    }
+    out.extend((refused.len() as u16).to_le_bytes());
+    for Refused { record, number } in refused {
+        out.extend(record.to_le_bytes());
+        out.push(number);
+    }
+    out.extend(vector.page_buffer.to_le_bytes());
+    write_answer(out, &page(&history, vector.page_buffer.into()));
+    out.extend(vector.back_buffer.to_le_bytes());
+    write_answer(out, &settings_back(&history, vector.back_buffer.into()));
+}
+
+fn write_settings(out: &mut Vec<u8>, vector: &SettingsVector) {
+    out.extend(vector.length.to_le_bytes());
+    out.push(vector.patches.len() as u8);
+    let mut bytes = vec![0; vector.length.into()];
+    for &(place, byte) in &vector.patches {
+        out.extend(place.to_le_bytes());
+        out.push(byte);
+        bytes[usize::from(place)] = byte;
+    }
+    let history = [Call::Settings(bytes)];
+    match crate::history::refusal(&history[0]) {
+        Some(number) => out.push(number),
+        None => write_answer(out, &settings_back(&history, 4096)),
+    }
+}
+
+/// The refusal, or 0 and the bytes.
+fn write_answer<const N: usize>(out: &mut Vec<u8>, answer: &Result<[u8; N], u8>) {
+    match answer {
+        Ok(bytes) => {
+            out.push(0);
+            out.extend(bytes);
+        }
+        Err(number) => out.push(*number),
+    }
+}
+
+/// Reads a file of vectors by the format alone, and gives a line for each group: its name and the number of vectors.
+pub fn check(file: &[u8]) -> Result<String, String> {
+    let mut reader = Reader { file, at: 0 };
+    let mut lines = String::new();
+    loop {
+        match reader.u8()? {
+            b'E' if reader.at == file.len() => return Ok(lines),
+            b'G' => lines += &check_group(&mut reader)?,
+            _ => return reader.wrong("neither a group nor the end"),
+        }
+    }
+}
+
+fn check_group(reader: &mut Reader) -> Result<String, String> {
+    let length = reader.u8()?;
+    let name = String::from_utf8_lossy(reader.bytes(length.into())?).into_owned();
+    if !name.bytes().all(|b| b.is_ascii_lowercase() || b == b' ') {
+        return reader.wrong("a name of other characters");
+    }
+    let count = reader.u32()?;
+    for _ in 0..count {
+        if name.starts_with("settings") {
+            check_settings(reader)?;
+        } else {
+            check_events(reader)?;
+        }
+    }
+    Ok(format!("{name} {count}\n"))
+}
+
+fn check_events(reader: &mut Reader) -> Result<(), String> {
+    let length = reader.u32()? as usize;
+    if length > LONGEST_FILE {
+        return reader.wrong("an event file too long");
+    }
+    reader.bytes(length)?;
+    let records = (length / RECORD) as u32;
+    let mut earliest = 0;
+    for _ in 0..reader.u8()? {
+        let (counter, _, record) = (reader.u8()?, reader.u32()?, reader.u32()?);
+        if counter > 11 || record >= records || record < earliest {
+            return reader.wrong("a preset out of place");
+        }
+        earliest = record;
+    }
+    let mut earliest = 0;
+    for _ in 0..reader.u16()? {
+        let (record, number) = (reader.u32()?, reader.u8()?);
+        let fits = match number {
+            3..=8 | 11 => record < records,
+            12 => record == records && length % RECORD != 0,
+            _ => false,
+        };
+        if !fits || record < earliest {
+            return reader.wrong("a refusal out of place");
+        }
+        earliest = record + 1;
+    }
+    check_answer(reader, PAGE_LENGTH, 9, PAGE_LENGTH)?;
+    check_answer(reader, 4096, 10, 13)
+}
+
+/// A buffer's length and the refusal, which is due exactly when the length is not the right one, or so many bytes.
+fn check_answer(reader: &mut Reader, right: usize, number: u8, bytes: usize) -> Result<(), String> {
+    let length = reader.u16()?;
+    let refusal = reader.u8()?;
+    let due = if usize::from(length) == right { 0 } else { number };
+    if length > LONGEST_BUFFER || refusal != due {
+        return reader.wrong("a buffer's answer");
+    }
+    reader.bytes(if due == 0 { bytes } else { 0 }).map(|_| ())
+}
+
+fn check_settings(reader: &mut Reader) -> Result<(), String> {
+    let length = reader.u16()?;
+    if length > LONGEST_BUFFER {
+        return reader.wrong("settings too long");
+    }
+    for _ in 0..reader.u8()? {
+        let (place, _) = (reader.u16()?, reader.u8()?);
+        if place >= length {
+            return reader.wrong("a patch out of place");
+        }
+    }
+    match reader.u8()? {
+        0 => reader.bytes(13).map(|_| ()),
+        1..=6 => Ok(()),
+        _ => reader.wrong("a refusal of settings"),
+    }
+}
+
+struct Reader<'a> {
+    file: &'a [u8],
+    at: usize,
+}
+
+impl<'a> Reader<'a> {
+    fn wrong<T>(&self, what: &str) -> Result<T, String> {
+        Err(format!("{what}, before byte {}", self.at))
+    }
+
+    fn bytes(&mut self, count: usize) -> Result<&'a [u8], String> {
+        match self.file.get(self.at..self.at + count) {
+            Some(bytes) => {
+                self.at += count;
+                Ok(bytes)
+            }
+            None => self.wrong("the file ends too early"),
+        }
+    }
+
+    fn u8(&mut self) -> Result<u8, String> {
+        Ok(self.bytes(1)?[0])
+    }
+
+    fn u16(&mut self) -> Result<u16, String> {
+        Ok(u16::from_le_bytes(self.bytes(2)?.try_into().unwrap()))
+    }
+
+    fn u32(&mut self) -> Result<u32, String> {
+        Ok(u32::from_le_bytes(self.bytes(4)?.try_into().unwrap()))
+    }
+}
