@@ -1,6 +1,8 @@
 // Bytes as numbers, the lowest byte first. Knows nothing of the monitor.
+mod loads;
 mod stores;
 
+pub use loads::load;
 pub use stores::copy;
 pub use stores::put;
 pub use stores::put_fields;

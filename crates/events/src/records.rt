@@ -1,0 +1,147 @@
+// One record: the call that it stands for.
+ghost use mathlib.Core.Path.{_≡_};
+ghost use mathlib.Core.Bool.{true, false, not};
+ghost use mathlib.Core.Option.{none};
+ghost use Prim.Native.Nat.{_+_, _≤_};
+ghost use lib.ListN.{length};
+ghost use Rattle.endian.specs.Bytes.{anySet};
+ghost use Rattle.monitor.specs.Answers.{saysAnswer, saysElapsed, refused};
+ghost use Rattle.monitor.specs.Commands.{counterOf};
+ghost use Rattle.events.specs.Records.{unnamed, settingsOf, completionOf, isCompletion, afterRecord, recordReply};
+ghost use Rattle.events.specs.Records.{saysDone};
+use logpage::Settings;
+use monitor::Answer;
+use monitor::Completion;
+use monitor::ElapsedAnswer;
+use monitor::Monitor;
+use monitor::Outcome;
+
+// The bytes of a record.
+pub const RECORD: usize = 16;
+
+// The refusal of a record whose kind is unknown, or that has an unnamed byte set.
+pub const UNKNOWN_RECORD: u8 = 11;
+
+const SETTINGS: u8 = 1;
+const COMPLETION: u8 = 2;
+const ELAPSED: u8 = 3;
+const CLOCK: u8 = 4;
+const POWER_UP: u8 = 5;
+
+// Whether the bytes from `from` up to `to`, and those from `rest` on, are all zero; at most eight each.
+fn clear(r: &[u8], from: usize, to: usize, rest: usize) -> bool
+    requires { ⌜ (from ≤ to) × (to ≤ rest) × (rest ≤ length (now r)) × (to ≤ from + 8) × (length (now r) ≤ rest + 8) ⌝ }
+    ensures { λ b. ⌜ b ≡ not (anySet (unnamed from to rest (now (r .entry)))) ⌝ }
+{
+    if endian::load(&r[from..to]) == 0 {
+        endian::load(&r[rest..]) == 0
+    } else {
+        false
+    }
+}
+
+// Whether a record is a completion, with its unnamed bytes zero.
+pub(crate) fn is_completion(r: &[u8]) -> bool
+    requires { ⌜ length (now r) ≡ 16 ⌝ }
+    ensures { λ b. ⌜ b ≡ isCompletion (now (r .entry)) ⌝ }
+{
+    if r[0] == COMPLETION {
+        clear(r, 2, 4, 8)
+    } else {
+        false
+    }
+}
+
+// What a completion's record brings.
+pub(crate) fn completion(r: &[u8]) -> Completion
+    requires { ⌜ length (now r) ≡ 16 ⌝ }
+    ensures { λ c. ⌜ c ≡ completionOf (now (r .entry)) ⌝ }
+{
+    Completion {
+        opcode: r[1],
+        latency: endian::load(&r[4..8]) as u32,
+    }
+}
+
+// Whether a completion is below every threshold. It counts for nothing then, and the monitor need not be asked: most
+// completions are fast, and this spares the record's way through the call.
+pub(crate) fn below(s: Settings, c: Completion) -> bool
+    ensures { λ b. ⌜ (b ≡ true → counterOf s c ≡ none) ⌝ }
+{
+    let t = s.thresholds;
+    let increments = c.latency / 5000;
+    if (t[3] as u32) < increments {
+        false
+    } else if (t[2] as u32) < increments {
+        false
+    } else if (t[1] as u32) < increments {
+        false
+    } else {
+        increments <= t[0] as u32
+    }
+}
+
+// Settings bytes 0 to 12 from the record, the others zero.
+fn settings_bytes(r: &[u8]) -> [u8; 4096]
+    requires { ⌜ length (now r) ≡ 16 ⌝ }
+    ensures { λ s. ⌜ s ≡ settingsOf (now (r .entry)) ⌝ }
+{
+    let mut s = [0; 4096];
+    let mut i = 0;
+    while i < 13 {
+        s[i] = r[i + 1];
+        i += 1;
+    }
+    s
+}
+
+// The record's settings, brought to the monitor.
+fn configured(m: Monitor, r: &[u8]) -> Outcome
+    requires { ⌜ length (now r) ≡ 16 ⌝ }
+{
+    let s = settings_bytes(r);
+    m.configure(&s)
+}
+
+// The answer to elapsed time, without what became of the window.
+fn done(a: ElapsedAnswer) -> Answer
+    ensures { λ r. ⌜ saysAnswer r ≡ saysDone (saysElapsed a) ⌝ }
+{
+    match a {
+        ElapsedAnswer::Refused(n) => Answer::Refused(n),
+        ElapsedAnswer::Active => Answer::Done,
+        ElapsedAnswer::Ended => Answer::Done,
+    }
+}
+
+// Elapsed time, brought to the monitor.
+fn elapsed(m: Monitor, r: &[u8]) -> Outcome
+    requires { ⌜ length (now r) ≡ 16 ⌝ }
+{
+    let o = m.elapsed(endian::load(&r[4..8]) as u32);
+    let next = o.next;
+    let answer = done(o.answer);
+    Outcome { next, answer }
+}
+
+// No call.
+fn unknown(m: Monitor) -> Outcome {
+    let answer = Answer::Refused(UNKNOWN_RECORD);
+    Outcome { next: m, answer }
+}
+
+// A record that is no completion.
+pub(crate) fn other(m: Monitor, r: &[u8]) -> Outcome
+    requires { ⌜ (length (now r) ≡ 16) × (isCompletion (now r) ≡ false) ⌝ }
+    ensures next { λ o. ⌜ o .next ≡ afterRecord m (now (r .entry)) ⌝ }
+    ensures answer { λ o. ⌜ saysAnswer (o .answer) ≡ recordReply (now (r .entry)) ⌝ }
+{
+    let kind = r[0];
+    match kind {
+        SETTINGS => if clear(r, 14, 16, 16) { configured(m, r) } else { unknown(m) },
+        ELAPSED => if clear(r, 1, 4, 8) { elapsed(m, r) } else { unknown(m) },
+        CLOCK => if clear(r, 1, 4, 12) { m.set_clock(endian::load(&r[4..12])) } else { unknown(m) },
+        POWER_UP => if clear(r, 1, 8, 8) { m.power_up() } else { unknown(m) },
+        _ => unknown(m),
+    }
+}

@@ -1,0 +1,104 @@
+// The whole records of a slice, one after the other.
+use crate::records;
+use monitor::Answer;
+use monitor::Monitor;
+use monitor::Outcome;
+
+// Where a run stopped: at a refused record, with its number from 0 and the refusal, or at the end.
+pub enum Place {
+    Refused { index: usize, number: u8 },
+    End,
+}
+
+pub struct Stop {
+    pub monitor: Monitor,
+    pub at: Place,
+}
+
+// The whole records of a slice, up to the first that is refused.
+pub fn run(m: Monitor, s: &[u8]) -> Stop {
+    let mut monitor = m;
+    let mut i = 0;
+    while i < s.len() / records::RECORD {
+        let from = records::RECORD * i;
+        let r = &s[from..from + records::RECORD];
+        if records::is_completion(r) {
+            let c = records::completion(r);
+            let settings = monitor.settings;
+            if records::below(settings, c) {
+                i += 1;
+            } else {
+                let o = monitor.completion(c);
+                monitor = o.next;
+                i += 1;
+            }
+        } else {
+            let o = records::other(monitor, r);
+            monitor = o.next;
+            let answer = o.answer;
+            match answer {
+                Answer::Refused(number) => {
+                    let at = Place::Refused { index: i, number };
+                    return Stop { monitor, at };
+                }
+                Answer::Done => {
+                    i += 1;
+                }
+            }
+        }
+    }
+    let at = Place::End;
+    Stop { monitor, at }
+}
+
+// One record.
+pub fn apply(m: Monitor, record: &[u8]) -> Outcome {
+    if record.len() == records::RECORD {
+        let stop = run(m, record);
+        let next = stop.monitor;
+        let at = stop.at;
+        match at {
+            Place::Refused { index: _, number } => {
+                let answer = Answer::Refused(number);
+                Outcome { next, answer }
+            }
+            Place::End => {
+                let answer = Answer::Done;
+                Outcome { next, answer }
+            }
+        }
+    } else {
+        let answer = Answer::Refused(records::UNKNOWN_RECORD);
+        Outcome { next: m, answer }
+    }
+}
+
+// All whole records of a slice; those that are refused are passed over.
+pub fn replay(m: Monitor, s: &[u8]) -> Monitor {
+    let mut monitor = m;
+    let mut i = 0;
+    loop {
+        let from = records::RECORD * i;
+        let stop = run(monitor, &s[from..]);
+        monitor = stop.monitor;
+        let at = stop.at;
+        match at {
+            Place::Refused { index, number: _ } => {
+                i = i + index + 1;
+            }
+            Place::End => {
+                break;
+            }
+        }
+    }
+    monitor
+}
+
+// The answer to what is left over at the end of a file of so many bytes.
+pub fn left_over(n: usize) -> Answer {
+    if n % records::RECORD == 0 {
+        Answer::Done
+    } else {
+        Answer::Refused(12)
+    }
+}

@@ -1,0 +1,71 @@
+// Reads standard input in records of 16 bytes, applies them to a new monitor, prints those that are refused, and then
+// the page.
+use events::Place;
+use monitor::Answer;
+use monitor::Monitor;
+
+// More turns than any run takes: nothing else says that the input ends.
+const TURNS: u64 = 1_099_511_627_776;
+
+// The monitor after a block of input, and the bytes that the block had.
+struct Block {
+    monitor: Monitor,
+    n: usize,
+}
+
+fn refused(index: u64, number: u8) {
+    io::write_all(1, b"refused ");
+    io::print_decimal(1, index);
+    io::write_all(1, b" ");
+    io::print_decimal(1, number as u64);
+    io::write_all(1, b"\n");
+}
+
+// The records of a block, the first of them record `base` of the input.
+fn records(m: Monitor, s: &[u8], base: u64) -> Monitor {
+    let mut monitor = m;
+    let mut i = 0;
+    loop {
+        let from = 16 * i;
+        let stop = events::run(monitor, &s[from..]);
+        monitor = stop.monitor;
+        let at = stop.at;
+        match at {
+            Place::Refused { index, number } => {
+                refused(base + (i + index) as u64, number);
+                i = i + index + 1;
+            }
+            Place::End => {
+                break;
+            }
+        }
+    }
+    monitor
+}
+
+// One block of the input: less than 64 KiB at its end only.
+fn block(m: Monitor, base: u64) -> Block {
+    let mut buffer = io::large_buffer();
+    let n = io::read_full(0, &mut buffer);
+    let monitor = records(m, &buffer[..n], base);
+    Block { monitor, n }
+}
+
+fn main() {
+    let mut monitor = Monitor::new();
+    let mut whole: u64 = 0;
+    let mut turn: u64 = 0;
+    let mut n = 65536;
+    while turn < TURNS && n == 65536 {
+        let b = block(monitor, whole);
+        monitor = b.monitor;
+        n = b.n;
+        whole += (n / 16) as u64;
+        turn += 1;
+    }
+    let end = events::left_over(n);
+    match end {
+        Answer::Refused(number) => refused(whole, number),
+        Answer::Done => {}
+    }
+}
