@@ -8,23 +8,11 @@ const LENT: u8 = 165;
 // The longest buffer that a vector lends.
 pub const LONGEST: usize = 4200;
 
-// Whether a buffer is as it was lent.
-fn kept(s: &[u8]) -> bool {
+// Whether a buffer starts with these bytes, and every other byte of it is `rest`.
+pub fn holds(s: &[u8], bytes: &[u8], rest: u8) -> bool {
     let mut i = 0;
     while i < s.len() {
-        if s[i] != LENT {
-            return false;
-        }
-        i += 1;
-    }
-    true
-}
-
-// Whether a buffer holds these bytes, and zeros after them.
-pub fn holds(s: &[u8], bytes: &[u8]) -> bool {
-    let mut i = 0;
-    while i < s.len() {
-        let expected = if i < bytes.len() { bytes[i] } else { 0 };
+        let expected = if i < bytes.len() { bytes[i] } else { rest };
         if s[i] != expected {
             return false;
         }
@@ -38,14 +26,14 @@ fn agrees(answer: Answer, s: &[u8], refusal: usize, bytes: &[u8]) -> bool {
     match answer {
         Answer::Refused(number) => {
             if number as usize == refusal {
-                kept(s)
+                holds(s, &bytes[0..0], LENT)
             } else {
                 false
             }
         }
         Answer::Done => {
             if refusal == 0 {
-                holds(s, bytes)
+                holds(s, bytes, 0)
             } else {
                 false
             }
@@ -53,12 +41,23 @@ fn agrees(answer: Answer, s: &[u8], refusal: usize, bytes: &[u8]) -> bool {
     }
 }
 
+// The page, into a buffer.
+fn page_in(m: Monitor, s: &mut [u8], refusal: usize, bytes: &[u8]) -> bool {
+    let answer = m.page(s);
+    agrees(answer, s, refusal, bytes)
+}
+
+// The settings given back, into a buffer.
+fn settings_in(m: Monitor, s: &mut [u8], refusal: usize, bytes: &[u8]) -> bool {
+    let answer = m.settings_back(s);
+    agrees(answer, s, refusal, bytes)
+}
+
 // The page, into a buffer of this length.
 pub fn page(m: Monitor, n: usize, refusal: usize, bytes: &[u8]) -> bool {
     let mut buffer = [LENT; LONGEST];
     if n <= LONGEST {
-        let answer = m.page(&mut buffer[..n]);
-        agrees(answer, &buffer[..n], refusal, bytes)
+        page_in(m, &mut buffer[0..n], refusal, bytes)
     } else {
         false
     }
@@ -68,8 +67,7 @@ pub fn page(m: Monitor, n: usize, refusal: usize, bytes: &[u8]) -> bool {
 pub fn settings_back(m: Monitor, n: usize, refusal: usize, bytes: &[u8]) -> bool {
     let mut buffer = [LENT; LONGEST];
     if n <= LONGEST {
-        let answer = m.settings_back(&mut buffer[..n]);
-        agrees(answer, &buffer[..n], refusal, bytes)
+        settings_in(m, &mut buffer[0..n], refusal, bytes)
     } else {
         false
     }

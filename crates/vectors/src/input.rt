@@ -14,16 +14,21 @@ fn fill(s: &mut [u8]) -> bool {
     io::read_full(0, s) == s.len()
 }
 
+// The number that fills a buffer.
+fn number_in(s: &mut [u8]) -> Part {
+    if fill(s) {
+        Part::Read(endian::load(s) as usize)
+    } else {
+        Part::Missing
+    }
+}
+
 // A number of so many bytes.
 pub fn number(width: usize) -> Part
     requires { ⌜ width ≤ 4 ⌝ }
 {
     let mut bytes = [0; 4];
-    if fill(&mut bytes[..width]) {
-        Part::Read(endian::load(&bytes) as usize)
-    } else {
-        Part::Missing
-    }
+    number_in(&mut bytes[0..width])
 }
 
 // A list, into the start of a buffer: its count, and then so many elements. Gives the bytes of the elements.
@@ -38,7 +43,7 @@ pub fn list(width: usize, each: usize, s: &mut [u8]) -> Part
         return Part::Missing;
     }
     let n = count * each;
-    if fill(&mut s[..n]) {
+    if fill(&mut s[0..n]) {
         Part::Read(n)
     } else {
         Part::Missing

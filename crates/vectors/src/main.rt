@@ -44,7 +44,7 @@ fn of_settings(name: &[u8]) -> bool {
     if name.len() < 8 {
         false
     } else {
-        compare::holds(&name[..8], b"settings")
+        compare::holds(&name[0..8], b"settings", 0)
     }
 }
 
@@ -78,10 +78,10 @@ fn group() -> Step {
     let Part::Read(count) = input::number(4) else {
         return Step::Unread;
     };
-    let Part::Read(agreed) = vectors(&name[..n], count) else {
+    let Part::Read(agreed) = vectors(&name[0..n], count) else {
         return Step::Unread;
     };
-    report(&name[..n], agreed);
+    report(&name[0..n], agreed);
     Step::Group
 }
 
@@ -94,7 +94,7 @@ fn end() -> Step {
 }
 
 // The next group, or the end.
-fn step() -> Step {
+fn advance() -> Step {
     let Part::Read(first) = input::number(1) else {
         return Step::Unread;
     };
@@ -110,7 +110,7 @@ fn step() -> Step {
 fn main() {
     let mut turn = 0;
     while turn < TURNS {
-        match step() {
+        match advance() {
             Step::Group => {
                 turn += 1;
             }

@@ -68,8 +68,8 @@ fn records(mut p: Played, file: &[u8], from: usize, to: usize, refusals: &[u8]) 
         match at {
             Place::Refused { index, number } => {
                 let record = stopped(i, index, to);
-                p = refused(p, refusals, record, number);
                 i = record + 1;
+                p = refused(p, refusals, record, number);
             }
             Place::End => {
                 i = to;

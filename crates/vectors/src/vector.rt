@@ -14,7 +14,7 @@ pub enum Verdict {
     Unread,
 }
 
-fn verdict(agrees: bool) -> Verdict {
+fn judged(agrees: bool) -> Verdict {
     if agrees {
         Verdict::Agrees
     } else {
@@ -44,7 +44,7 @@ fn page(m: Monitor) -> Verdict {
     let Part::Read(refusal) = input::answer(&mut bytes) else {
         return Verdict::Unread;
     };
-    verdict(compare::page(m, n, refusal, &bytes))
+    judged(compare::page(m, n, refusal, &bytes))
 }
 
 // The settings that a monitor gives back, into the buffer of the vector.
@@ -56,7 +56,7 @@ fn settings_back(m: Monitor) -> Verdict {
     let Part::Read(refusal) = input::answer(&mut bytes) else {
         return Verdict::Unread;
     };
-    verdict(compare::settings_back(m, n, refusal, &bytes))
+    judged(compare::settings_back(m, n, refusal, &bytes))
 }
 
 // An event vector.
@@ -73,9 +73,9 @@ fn events() -> Verdict {
     let Part::Read(refusal_bytes) = input::list(2, 5, &mut refusals) else {
         return Verdict::Unread;
     };
-    let p = play::play(&file[..bytes], &presets[..preset_bytes], &refusals[..refusal_bytes]);
+    let p = play::play(&file[0..bytes], &presets[0..preset_bytes], &refusals[0..refusal_bytes]);
     let m = p.monitor;
-    let refused = verdict(p.agrees);
+    let refused = judged(p.agrees);
     let shown = page(m);
     let given = settings_back(m);
     both(refused, both(shown, given))
@@ -107,6 +107,15 @@ fn configure(s: &[u8], refusal: usize, bytes: &[u8]) -> bool {
     }
 }
 
+// The same of settings that are zero but for the patches.
+fn configure_patched(s: &mut [u8], patches: &[u8], refusal: usize, bytes: &[u8]) -> bool {
+    if patch(s, patches) {
+        configure(s, refusal, bytes)
+    } else {
+        false
+    }
+}
+
 // A settings vector.
 fn settings() -> Verdict {
     let Part::Read(n) = input::number(2) else {
@@ -121,11 +130,9 @@ fn settings() -> Verdict {
         return Verdict::Unread;
     };
     let mut s = [0; compare::LONGEST];
-    if compare::LONGEST < n {
-        return Verdict::Differs;
-    }
-    if patch(&mut s[..n], &patches[..patch_bytes]) {
-        verdict(configure(&s[..n], refusal, &bytes))
+    if n <= compare::LONGEST {
+        let given = &patches[0..patch_bytes];
+        judged(configure_patched(&mut s[0..n], given, refusal, &bytes))
     } else {
         Verdict::Differs
     }
