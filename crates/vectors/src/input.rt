@@ -1,7 +1,5 @@
 // The file of vectors, read from standard input part by part. reference/src/vectors.rs describes it.
 ghost use Prim.Native.Nat.{_≤_, _<_};
-ghost use lib.ListN.{length};
-ghost use Rattle.vectors.specs.Parts.{Within};
 
 // What a part of the file said; nothing, where the input ended before it or it does not fit.
 pub enum Part {
@@ -34,7 +32,6 @@ pub fn number(width: usize) -> Part
 // A list, into the start of a buffer: its count, and then so many elements. Gives the bytes of the elements.
 pub fn list(width: usize, each: usize, s: &mut [u8]) -> Part
     requires { ⌜ (width ≤ 4) × (0 < each) ⌝ }
-    ensures { λ r. ⌜ Within r (length (now (s .exit))) ⌝ }
 {
     let Part::Read(count) = number(width) else {
         return Part::Missing;
@@ -48,6 +45,11 @@ pub fn list(width: usize, each: usize, s: &mut [u8]) -> Part
     } else {
         Part::Missing
     }
+}
+
+// The first n bytes, or all where there are fewer.
+pub fn first(s: &[u8], n: usize) -> &[u8] {
+    if n <= s.len() { &s[0..n] } else { s }
 }
 
 // A refusal, and where it is 0 the bytes of the answer.

@@ -71,17 +71,18 @@ fn vectors(name: &[u8], count: usize) -> Part {
 
 // A group, after its first byte.
 fn group() -> Step {
-    let mut name = [0; 255];
-    let Part::Read(n) = input::list(1, 1, &mut name) else {
+    let mut letters = [0; 255];
+    let Part::Read(n) = input::list(1, 1, &mut letters) else {
         return Step::Unread;
     };
+    let name = input::first(&letters, n);
     let Part::Read(count) = input::number(4) else {
         return Step::Unread;
     };
-    let Part::Read(agreed) = vectors(&name[0..n], count) else {
+    let Part::Read(agreed) = vectors(name, count) else {
         return Step::Unread;
     };
-    report(&name[0..n], agreed);
+    report(name, agreed);
     Step::Group
 }
 

@@ -1,5 +1,7 @@
 // An event file, played on a new monitor. Each refusal is held against the expected one.
+ghost use mathlib.Core.Path.{_≡_};
 ghost use Prim.Native.Nat.{_≤_};
+ghost use lib.ListN.{length};
 use events::Place;
 use monitor::Answer;
 use monitor::Monitor;
@@ -13,6 +15,8 @@ const REFUSAL: usize = 5;
 
 pub struct Played {
     pub monitor: Monitor,
+    // The number of the next record.
+    next: usize,
     // The refusals so far.
     refused: usize,
     // Whether each was the expected one.
@@ -45,25 +49,21 @@ fn stopped(from: usize, index: usize, to: usize) -> usize
     requires { ⌜ from ≤ to ⌝ }
     ensures { λ r. ⌜ (from ≤ r) × (r ≤ to) ⌝ }
 {
-    if index < to - from {
-        from + index
-    } else {
-        to
-    }
+    if index < to - from { from + index } else { to }
 }
 
-// The records of a file from one up to another.
-fn records(mut p: Played, file: &[u8], from: usize, to: usize, refusals: &[u8]) -> Played {
+// The records of a file from the next one up to another.
+fn records(mut p: Played, file: &[u8], to: usize, refusals: &[u8]) -> Played {
     if file.len() / RECORD < to {
         p.agrees = false;
         return p;
     }
-    let mut i = from;
+    let mut i = p.next;
     while i < to {
         let m = p.monitor;
         let stop = events::run(m, &file[RECORD * i..RECORD * to]);
-        let next = stop.monitor;
-        p.monitor = next;
+        let monitor = stop.monitor;
+        p.monitor = monitor;
         let at = stop.at;
         match at {
             Place::Refused { index, number } => {
@@ -76,15 +76,20 @@ fn records(mut p: Played, file: &[u8], from: usize, to: usize, refusals: &[u8]) 
             }
         }
     }
+    p.next = to;
     p
 }
 
-// A counter of the active window, set to a value.
-fn preset(mut p: Played, counter: usize, value: u32) -> Played {
+// A preset: the records before its own, and then a counter of the active window set to a value.
+fn preset(start: Played, file: &[u8], s: &[u8], refusals: &[u8]) -> Played
+    requires { ⌜ length (now s) ≡ 9 ⌝ }
+{
+    let mut p = records(start, file, number(&s[5..9]) as usize, refusals);
+    let counter = number(&s[0..1]) as usize;
     if counter < 12 {
         let mut m = p.monitor;
         let mut w = m.active_window;
-        w.counters[counter] = value;
+        w.counters[counter] = number(&s[1..5]);
         m.active_window = w;
         p.monitor = m;
     } else {
@@ -93,36 +98,36 @@ fn preset(mut p: Played, counter: usize, value: u32) -> Played {
     p
 }
 
-// What is left over at the end of a file.
-fn left_over(p: Played, file: &[u8], refusals: &[u8]) -> Played {
+// The records after the last preset, and what is left over at the end of the file.
+fn finish(start: Played, file: &[u8], refusals: &[u8]) -> Played {
+    let whole = file.len() / RECORD;
+    let mut p = records(start, file, whole, refusals);
     match events::left_over(file.len()) {
-        Answer::Refused(number) => refused(p, refusals, file.len() / RECORD, number),
-        Answer::Done => p,
+        Answer::Refused(number) => {
+            p = refused(p, refusals, whole, number);
+        }
+        Answer::Done => {}
     }
-}
-
-// The records of a file with the presets between them, and its end.
-pub fn play(file: &[u8], presets: &[u8], refusals: &[u8]) -> Played {
-    let monitor = Monitor::new();
-    let mut p = Played {
-        monitor,
-        refused: 0,
-        agrees: true,
-    };
-    let mut from = 0;
-    let mut k = 0;
-    while k < presets.len() / PRESET {
-        let at = PRESET * k;
-        let to = number(&presets[at + 5..at + 9]) as usize;
-        p = records(p, file, from, to, refusals);
-        p = preset(p, presets[at] as usize, number(&presets[at + 1..at + 5]));
-        from = to;
-        k += 1;
-    }
-    p = records(p, file, from, file.len() / RECORD, refusals);
-    p = left_over(p, file, refusals);
     if p.refused < refusals.len() / REFUSAL {
         p.agrees = false;
     }
     p
+}
+
+// A whole file, with its presets.
+pub fn play(file: &[u8], presets: &[u8], refusals: &[u8]) -> Played {
+    let monitor = Monitor::new();
+    let mut p = Played {
+        monitor,
+        next: 0,
+        refused: 0,
+        agrees: true,
+    };
+    let mut k = 0;
+    while k < presets.len() / PRESET {
+        let at = PRESET * k;
+        p = preset(p, file, &presets[at..at + PRESET], refusals);
+        k += 1;
+    }
+    finish(p, file, refusals)
 }

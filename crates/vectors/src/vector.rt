@@ -73,7 +73,11 @@ fn events() -> Verdict {
     let Part::Read(refusal_bytes) = input::list(2, 5, &mut refusals) else {
         return Verdict::Unread;
     };
-    let p = play::play(&file[0..bytes], &presets[0..preset_bytes], &refusals[0..refusal_bytes]);
+    let p = play::play(
+        input::first(&file, bytes),
+        input::first(&presets, preset_bytes),
+        input::first(&refusals, refusal_bytes),
+    );
     let m = p.monitor;
     let refused = judged(p.agrees);
     let shown = page(m);
@@ -131,7 +135,7 @@ fn settings() -> Verdict {
     };
     let mut s = [0; compare::LONGEST];
     if n <= compare::LONGEST {
-        let given = &patches[0..patch_bytes];
+        let given = input::first(&patches, patch_bytes);
         judged(configure_patched(&mut s[0..n], given, refusal, &bytes))
     } else {
         Verdict::Differs
@@ -140,9 +144,5 @@ fn settings() -> Verdict {
 
 // The next vector: of settings, or else of events.
 pub fn next(of_settings: bool) -> Verdict {
-    if of_settings {
-        settings()
-    } else {
-        events()
-    }
+    if of_settings { settings() } else { events() }
 }

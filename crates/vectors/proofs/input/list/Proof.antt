@@ -1,10 +1,8 @@
+use native.Mathlib.Nat.{le-div-iff-mul-le}
+use native.Mathlib.Omega.{arith}
 use borrow.Author.Needs.{needs}
 use Rattle.vectors.proofs.input.list.Statement.{statement}
 use Rattle.vectors.proofs.input.list.Tie as tie
-use Rattle.vectors.proofs.input.list.Reads as reads
-use Rattle.vectors.proofs.input.list.Lts as lts
-use Rattle.vectors.proofs.input.fill.Reads as fill-reads
-use Rattle.vectors.proofs.input.number.Reads as number-reads
 
 number-requires : tie.Need-number-requires
 number-requires c κs = search needs
@@ -25,7 +23,7 @@ returns-2 : tie.Need-returns-2
 returns-2 c = search needs
 
 mul-n : tie.Need-mul-n
-mul-n c = ?
+mul-n c = omega (arith, le-div-iff-mul-le (c .before .before .before .before .before .before .pre .1) .0 (c .if1 .left))
 
 sub-fill : tie.Need-sub-fill
 sub-fill c = search needs
@@ -34,7 +32,7 @@ part-fill-start : tie.Need-part-fill-start
 part-fill-start c = search needs
 
 part-fill-end : tie.Need-part-fill-end
-part-fill-end c = ?
+part-fill-end c = le-div-iff-mul-le (c .before .before .before .before .before .before .pre .1) .0 (c .if1 .left)
 
 fill-requires : tie.Need-fill-requires
 fill-requires c κs = search needs
@@ -43,7 +41,7 @@ same-length : tie.Need-same-length
 same-length c = search needs
 
 returns-3 : tie.Need-returns-3
-returns-3 c = ?
+returns-3 c = search needs
 
 same-length-2 : tie.Need-same-length-2
 same-length-2 c = search needs

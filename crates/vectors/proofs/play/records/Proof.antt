@@ -4,10 +4,10 @@ use Rattle.vectors.proofs.play.records.Statement.{statement}
 use Rattle.vectors.proofs.play.records.Tie as tie
 
 abbrev Inv-loop : tie.InvT-loop
-Inv-loop p₀ file from to refusals i₀ p i = Unit {0}
+Inv-loop p₀ file to refusals i₀ p i = Unit {0}
 
 abbrev μ-loop : tie.MeasureT-loop
-μ-loop p₀ file from to refusals i₀ p i = to - i
+μ-loop p₀ file to refusals i₀ p i = to - i
 
 returns : tie.Need-returns Inv-loop μ-loop
 returns c = search needs
