@@ -12,9 +12,9 @@ use vector::Verdict;
 const TURNS: u64 = 1_099_511_627_776;
 
 // The first byte of a group, and the last of the file.
-const GROUP: usize = 71;
+const GROUP: usize = b'G' as usize;
 
-const END: usize = 69;
+const END: usize = b'E' as usize;
 
 // What came of a step through the file.
 enum Step {

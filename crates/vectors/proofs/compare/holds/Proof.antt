@@ -1,3 +1,4 @@
+-- `vectors::compare::holds` is safe and ends.
 use Prim.Native.Nat.{_-_}
 use lib.ListN.{length}
 use borrow.Author.Needs.{needs}

@@ -1,3 +1,4 @@
+-- `vectors::input::list` is safe and ends: a count of at most the buffer's length over an element's fits the buffer.
 use native.Mathlib.Nat.{le-div-iff-mul-le}
 use native.Mathlib.Omega.{arith}
 use borrow.Author.Needs.{needs}

@@ -1,3 +1,4 @@
+-- `vectors::play::records` is safe and ends: each run goes on after the record that stopped the one before.
 use Prim.Native.Nat.{_-_}
 use borrow.Author.Needs.{needs}
 use Rattle.vectors.proofs.play.records.Statement.{statement}

@@ -1,3 +1,4 @@
+-- `vectors::vector::patch` is safe and ends. The invariant: the slice keeps its length.
 use Prim.Native.Nat.{_-_, _/_}
 use mathlib.Core.Path.{_≡_}
 use lib.ListN.{length}
