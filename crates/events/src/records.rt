@@ -3,12 +3,13 @@ ghost use mathlib.Core.Path.{_≡_};
 ghost use mathlib.Core.Bool.{true, false, not};
 ghost use mathlib.Core.Option.{none};
 ghost use Prim.Native.Nat.{_+_, _≤_};
-ghost use lib.ListN.{length};
+ghost use lib.ListN.{length, replicate};
 ghost use Rattle.endian.specs.Bytes.{anySet};
-ghost use Rattle.monitor.specs.Answers.{saysAnswer, saysElapsed, refused};
+ghost use Rattle.monitor.specs.Answers.{saysAnswer, unlessRefused, refused, done};
+ghost use Rattle.monitor.specs.Record.{afterSettings, settingsReply, afterElapsed};
+ghost use Rattle.monitor.specs.Refusals.{elapsedRefusal};
 ghost use Rattle.monitor.specs.Commands.{counterOf};
 ghost use Rattle.events.specs.Records.{unnamed, settingsOf, completionOf, isCompletion, afterRecord, recordReply};
-ghost use Rattle.events.specs.Records.{saysDone};
 use logpage::Settings;
 use monitor::Answer;
 use monitor::Completion;
@@ -23,9 +24,13 @@ pub const RECORD: usize = 16;
 pub const UNKNOWN_RECORD: u8 = 11;
 
 const SETTINGS: u8 = 1;
+
 const COMPLETION: u8 = 2;
+
 const ELAPSED: u8 = 3;
+
 const CLOCK: u8 = 4;
+
 const POWER_UP: u8 = 5;
 
 // Whether the bytes from `from` up to `to`, and those from `rest` on, are all zero; at most eight each.
@@ -81,12 +86,18 @@ pub(crate) fn below(s: Settings, c: Completion) -> bool
     }
 }
 
+fn zeros() -> [u8; 4096]
+    ensures { λ s. ⌜ s ≡ replicate 4096 0 ⌝ }
+{
+    [0; 4096]
+}
+
 // Settings bytes 0 to 12 from the record, the others zero.
 fn settings_bytes(r: &[u8]) -> [u8; 4096]
     requires { ⌜ length (now r) ≡ 16 ⌝ }
     ensures { λ s. ⌜ s ≡ settingsOf (now (r .entry)) ⌝ }
 {
-    let mut s = [0; 4096];
+    let mut s = zeros();
     let mut i = 0;
     while i < 13 {
         s[i] = r[i + 1];
@@ -98,34 +109,42 @@ fn settings_bytes(r: &[u8]) -> [u8; 4096]
 // The record's settings, brought to the monitor.
 fn configured(m: Monitor, r: &[u8]) -> Outcome
     requires { ⌜ length (now r) ≡ 16 ⌝ }
+    ensures next { λ o. ⌜ o .next ≡ afterSettings m (settingsOf (now (r .entry))) ⌝ }
+    ensures answer { λ o. ⌜ saysAnswer (o .answer) ≡ settingsReply (settingsOf (now (r .entry))) ⌝ }
 {
     let s = settings_bytes(r);
     m.configure(&s)
 }
 
-// The answer to elapsed time, without what became of the window.
-fn done(a: ElapsedAnswer) -> Answer
-    ensures { λ r. ⌜ saysAnswer r ≡ saysDone (saysElapsed a) ⌝ }
+// Elapsed time, brought to the monitor.
+fn elapsed(m: Monitor, ms: u32) -> Outcome
+    ensures next { λ o. ⌜ o .next ≡ afterElapsed m ms ⌝ }
+    ensures answer { λ o. ⌜ saysAnswer (o .answer) ≡ unlessRefused (elapsedRefusal ms) done ⌝ }
 {
+    let o = m.elapsed(ms);
+    let next = o.next;
+    let a = o.answer;
     match a {
-        ElapsedAnswer::Refused(n) => Answer::Refused(n),
-        ElapsedAnswer::Active => Answer::Done,
-        ElapsedAnswer::Ended => Answer::Done,
+        ElapsedAnswer::Refused(n) => {
+            let answer = Answer::Refused(n);
+            Outcome { next, answer }
+        }
+        ElapsedAnswer::Active => {
+            let answer = Answer::Done;
+            Outcome { next, answer }
+        }
+        ElapsedAnswer::Ended => {
+            let answer = Answer::Done;
+            Outcome { next, answer }
+        }
     }
 }
 
-// Elapsed time, brought to the monitor.
-fn elapsed(m: Monitor, r: &[u8]) -> Outcome
-    requires { ⌜ length (now r) ≡ 16 ⌝ }
-{
-    let o = m.elapsed(endian::load(&r[4..8]) as u32);
-    let next = o.next;
-    let answer = done(o.answer);
-    Outcome { next, answer }
-}
-
 // No call.
-fn unknown(m: Monitor) -> Outcome {
+fn unknown(m: Monitor) -> Outcome
+    ensures next { λ o. ⌜ o .next ≡ m ⌝ }
+    ensures answer { λ o. ⌜ saysAnswer (o .answer) ≡ refused 11 ⌝ }
+{
     let answer = Answer::Refused(UNKNOWN_RECORD);
     Outcome { next: m, answer }
 }
@@ -138,10 +157,26 @@ pub(crate) fn other(m: Monitor, r: &[u8]) -> Outcome
 {
     let kind = r[0];
     match kind {
-        SETTINGS => if clear(r, 14, 16, 16) { configured(m, r) } else { unknown(m) },
-        ELAPSED => if clear(r, 1, 4, 8) { elapsed(m, r) } else { unknown(m) },
-        CLOCK => if clear(r, 1, 4, 12) { m.set_clock(endian::load(&r[4..12])) } else { unknown(m) },
-        POWER_UP => if clear(r, 1, 8, 8) { m.power_up() } else { unknown(m) },
+        SETTINGS => if clear(r, 14, 16, 16) {
+            configured(m, r)
+        } else {
+            unknown(m)
+        },
+        ELAPSED => if clear(r, 1, 4, 8) {
+            elapsed(m, endian::load(&r[4..8]) as u32)
+        } else {
+            unknown(m)
+        },
+        CLOCK => if clear(r, 1, 4, 12) {
+            m.set_clock(endian::load(&r[4..12]))
+        } else {
+            unknown(m)
+        },
+        POWER_UP => if clear(r, 1, 8, 8) {
+            m.power_up()
+        } else {
+            unknown(m)
+        },
         _ => unknown(m),
     }
 }

@@ -5,7 +5,7 @@ use native.Mathlib.Omega.{arith}
 use borrow.Author.Needs.{needs}
 use lib.ListN.{length, take, drop}
 use Rattle.endian.specs.Loads.{number}
-use Rattle.endian.proofs.loads.Laws.{none-left, one-lower, fits}
+use Rattle.endian.proofs.Numbers.{none-left, one-lower, fits}
 use Rattle.endian.proofs.loads.load.Statement.{statement}
 use Rattle.endian.proofs.loads.load.Tie as tie
 

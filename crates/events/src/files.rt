@@ -1,4 +1,9 @@
 // The whole records of a slice, one after the other.
+ghost use mathlib.Core.Path.{_≡_};
+ghost use Rattle.monitor.specs.Answers.{saysAnswer, unlessRefused, done};
+ghost use Rattle.monitor.specs.History.{playFrom};
+ghost use Rattle.events.specs.Records.{afterRecord, recordReply, callsBefore, historyOf, firstRefused};
+ghost use Rattle.events.specs.Records.{acceptedRecords, saysPlace, endRefusal};
 use crate::records;
 use monitor::Answer;
 use monitor::Monitor;
@@ -16,7 +21,10 @@ pub struct Stop {
 }
 
 // The whole records of a slice, up to the first that is refused.
-pub fn run(m: Monitor, s: &[u8]) -> Stop {
+pub fn run(m: Monitor, s: &[u8]) -> Stop
+    ensures monitor { λ r. ⌜ r .monitor ≡ playFrom m (callsBefore (now (s .entry)) (acceptedRecords (now (s .entry)))) ⌝ }
+    ensures at { λ r. ⌜ saysPlace (r .at) ≡ firstRefused (now (s .entry)) ⌝ }
+{
     let mut monitor = m;
     let mut i = 0;
     while i < s.len() / records::RECORD {
@@ -52,9 +60,12 @@ pub fn run(m: Monitor, s: &[u8]) -> Stop {
 }
 
 // One record.
-pub fn apply(m: Monitor, record: &[u8]) -> Outcome {
-    if record.len() == records::RECORD {
-        let stop = run(m, record);
+pub fn apply(m: Monitor, r: &[u8]) -> Outcome
+    ensures next { λ o. ⌜ o .next ≡ afterRecord m (now (r .entry)) ⌝ }
+    ensures answer { λ o. ⌜ saysAnswer (o .answer) ≡ recordReply (now (r .entry)) ⌝ }
+{
+    if r.len() == records::RECORD {
+        let stop = run(m, r);
         let next = stop.monitor;
         let at = stop.at;
         match at {
@@ -74,7 +85,9 @@ pub fn apply(m: Monitor, record: &[u8]) -> Outcome {
 }
 
 // All whole records of a slice; those that are refused are passed over.
-pub fn replay(m: Monitor, s: &[u8]) -> Monitor {
+pub fn replay(m: Monitor, s: &[u8]) -> Monitor
+    ensures { λ r. ⌜ r ≡ playFrom m (historyOf (now (s .entry))) ⌝ }
+{
     let mut monitor = m;
     let mut i = 0;
     loop {
@@ -95,7 +108,9 @@ pub fn replay(m: Monitor, s: &[u8]) -> Monitor {
 }
 
 // The answer to what is left over at the end of a file of so many bytes.
-pub fn left_over(n: usize) -> Answer {
+pub fn left_over(n: usize) -> Answer
+    ensures { λ r. ⌜ saysAnswer r ≡ unlessRefused (endRefusal n) done ⌝ }
+{
     if n % records::RECORD == 0 {
         Answer::Done
     } else {

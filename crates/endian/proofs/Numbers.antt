@@ -1,12 +1,12 @@
 -- Laws of the number that bytes make.
-use mathlib.Core.Path.{_≡_, refl, sym, ap, _∙_}
+use mathlib.Core.Path.{_≡_, refl}
 use mathlib.Core.Bool.{Bool, true, false, not, _||_}
-use mathlib.Core.List.{List, [], _∷_}
+use mathlib.Core.List.{List, [], _∷_, _++_}
 use Prim.Native.Nat.{ℕ, zero, suc, _+_, _-_, _*_, _^_, _<_, _≤_, min}
 use native.Mathlib.Nat.{not-suc-le-zero, pow-succ', one-le-pow, pow-le-pow-right, lt-of-lt-of-le}
 use native.Mathlib.Numerals.{sub-one}
 use native.Mathlib.Omega.{arith}
-use borrow.Author.Tests.{eq-eqb, eqb-true, ltb-true, ltb-false}
+use borrow.Author.Tests.{eq-eqb, eqb-true, eqb-false, ltb-true, ltb-false}
 use lib.Dec.{eqb, ltb}
 use lib.ListN.{length, getD, take, drop, drop-of-length-le}
 use lib.Seq.{take-nil, drop-cons, getD-drop}
@@ -64,3 +64,24 @@ pub fits : (s : List ℕ) (i : ℕ) → ((k : ℕ) → getD s k 0 < 256) → num
 fits s i bytes =
     lt-of-lt-of-le (below (drop i s) (λ k. rw (getD-drop i s k 0) (bytes (i + k))) (8 - i))
     (pow-le-pow-right {n = 256} (omega arith) {i = 8 - i} {j = 8} (omega arith))
+
+-- a byte of two lists is set where one of either is
+set-append : (a b : List ℕ) → anySet (a ++ b) ≡ (anySet a || anySet b)
+unfolding anySet
+set-append [] b = refl
+set-append (x ∷ a) b = rw (set-append a b) (by (eqb x 0))
+  where
+    by : (t : Bool) → (not t || (anySet a || anySet b)) ≡ ((not t || anySet a) || anySet b)
+    by true = refl
+    by false = refl
+
+-- two lists of bytes are clear where both numbers are zero
+pub both-clear : (a b : List ℕ) → number a ≡ 0 → eqb (number b) 0 ≡ not (anySet (a ++ b))
+both-clear a b e = rw (set-append a b, zero-clear a e) (by (eqb (number b) 0) refl)
+  where
+    by : (t : Bool) → eqb (number b) 0 ≡ t → t ≡ not (anySet b)
+    by true h = rw (zero-clear b (eqb-true (number b) 0 h))
+    by false h = rw (nonzero-set b (eqb-false (number b) 0 h))
+
+pub first-set : (a b : List ℕ) → (number a ≡ 0 → ⊥) → false ≡ not (anySet (a ++ b))
+first-set a b n = rw (set-append a b, nonzero-set a n)

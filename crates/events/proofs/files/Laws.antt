@@ -1,0 +1,265 @@
+-- Laws of the records of a file.
+use mathlib.Core.Path.{_≡_, refl, sym, ap, _∙_}
+use mathlib.Core.List.{List, []}
+use mathlib.Core.Option.{Option, none, some}
+use Prim.Native.Nat.{ℕ, zero, suc, _+_, _-_, _*_, _/_, _<_, _≤_}
+use native.Mathlib.Nat.{sub-zero, add-zero, add-suc}
+use native.Mathlib.Numerals.{add-one}
+use native.Mathlib.Omega.{arith}
+use borrow.Author.Tests.{ne-eqb}
+use lib.ListN.{length, take, drop, length-take, length-drop}
+use lib.Seq.{take-all, drop-drop}
+use Rattle.monitor.specs.declared.record.Monitor.{Monitor}
+use Rattle.monitor.specs.Answers.{Reply, refused, done, unlessRefused}
+use Rattle.monitor.specs.History.{Call, settings, completion, elapsed, clock, powerUp, page, settingsBack, History, after, playFrom, refusalOf, found, andThen, orElse}
+use Rattle.monitor.specs.Record.{afterSettings, afterElapsed, afterClock}
+use Rattle.events.proofs.records.Laws.{Made}
+use Rattle.events.specs.Records.{callOf, recordRefusal, recordReply, afterRecord, recordAt, wholeRecords, callsBefore, historyOf}
+use Rattle.events.specs.Records.{Refusal, refusalAt, firstRefusedFrom, firstRefused, acceptedRecords}
+
+-- an answer says whether there was a refusal, and which
+not-refused : (o : Option ℕ) → done ≡ unlessRefused o done → o ≡ none
+not-refused none e = refl
+not-refused (some n) e = cc
+
+refused-by : (o : Option ℕ) (n : ℕ) → refused n ≡ unlessRefused o done → o ≡ some n
+refused-by none n e = cc
+refused-by (some k) n e = cc
+
+-- a refused record leaves the monitor untouched
+untouched-by : (c : Call) (m : Monitor) (n : ℕ) → refusalOf c ≡ some n → after c m ≡ m
+unfolding afterSettings afterElapsed afterClock
+untouched-by (settings s) m n e = rw e
+untouched-by (completion c) m n e = cc
+untouched-by (elapsed ms) m n e = rw e
+untouched-by (clock value) m n e = rw e
+untouched-by powerUp m n e = cc
+untouched-by (page length) m n e = refl
+untouched-by (settingsBack length) m n e = refl
+
+pub untouched : (m : Monitor) (r : List ℕ) (n : ℕ) → recordRefusal r ≡ some n → afterRecord m r ≡ m
+unfolding recordRefusal afterRecord playFrom
+untouched m r n e = by (callOf r) e
+  where
+    by : (o : Option Call) → found (some 11) refusalOf o ≡ some n → playFrom m (andThen o []) ≡ m
+    by none e = refl
+    by (some c) e = untouched-by c m n e
+
+-- one call more, or none
+then-one : (m : Monitor) (h : History) (o : Option Call) → playFrom (playFrom m h) (andThen o []) ≡ playFrom m (andThen o h)
+unfolding playFrom
+then-one m h none = refl
+then-one m h (some c) = refl
+
+then-same :
+    (a b : Monitor) (h k : History) (o : Option Call) →
+    playFrom a h ≡ playFrom b k →
+    playFrom a (andThen o h) ≡ playFrom b (andThen o k)
+unfolding playFrom
+then-same a b h k none e = e
+then-same a b h k (some c) e = ap (after c) e
+
+-- the search passes an accepted record, and stops at a refused one
+module _ (s : List ℕ) (i n : ℕ) where
+  pass : recordRefusal (recordAt s i) ≡ none → firstRefusedFrom s i (suc n) ≡ firstRefusedFrom s (suc i) n
+  unfolding firstRefusedFrom
+  pass e = rw e
+
+  stop : (k : ℕ) → recordRefusal (recordAt s i) ≡ some k → firstRefusedFrom s i (suc n) ≡ refusalAt i (some k)
+  unfolding firstRefusedFrom
+  stop k e = rw e
+
+-- the code's part of a file is its record
+pub the-record : (s : List ℕ) (i : ℕ) → take (16 * i + 16 - 16 * i) (drop (16 * i) s) ≡ recordAt s i
+the-record s i = let all : 16 * i + 16 - 16 * i ≡ 16 = omega arith in rw all
+
+pub sixteen : (s : List ℕ) (i : ℕ) → i < wholeRecords s → length (take (16 * i + 16 - 16 * i) (drop (16 * i) s)) ≡ 16
+sixteen s i h = omega (arith, length-take (16 * i + 16 - 16 * i) (drop (16 * i) s), length-drop (16 * i) s)
+
+-- where a run is, before record i: none before it was refused
+abbrev pub Ran : Monitor → List ℕ → Monitor → ℕ → Type 0
+Ran m s monitor i =
+    (i ≤ wholeRecords s)
+    × (monitor ≡ playFrom m (callsBefore s i))
+    × (firstRefusedFrom s i (wholeRecords s - i) ≡ firstRefused s)
+
+-- where a run stops
+abbrev pub Stopped : Monitor → List ℕ → Monitor → Option Refusal → Type 0
+Stopped m s monitor place = (monitor ≡ playFrom m (callsBefore s (acceptedRecords s))) × (place ≡ firstRefused s)
+
+module _ (m : Monitor) (s : List ℕ) where
+  pub started : Ran m s m 0
+  unfolding playFrom callsBefore firstRefused
+  started = (omega arith, refl, ap (firstRefusedFrom s 0) (sub-zero (wholeRecords s)))
+
+  module _ (monitor next : Monitor) (i : ℕ) (r : List ℕ) where
+    -- an accepted record
+    pub went-on :
+        Ran m s monitor i →
+        r ≡ recordAt s i →
+        next ≡ afterRecord monitor r →
+        done ≡ recordReply r →
+        i < wholeRecords s →
+        Ran m s next (i + 1)
+    unfolding callsBefore afterRecord recordReply
+    went-on (le, played, rest) er en ed h =
+        let here : recordRefusal (recordAt s i) ≡ none = rw er at (not-refused (recordRefusal r) ed) in
+        let more : wholeRecords s - i ≡ suc (wholeRecords s - suc i) = omega arith in
+        rw (add-one i)
+        (omega arith,
+          rw (en, er, played) (then-one m (callsBefore s i) (callOf (recordAt s i))),
+          sym (pass s i (wholeRecords s - suc i) here) ∙ (rw more at rest))
+
+    -- a refused one
+    pub stopped :
+        (n : ℕ) →
+        Ran m s monitor i →
+        r ≡ recordAt s i →
+        next ≡ afterRecord monitor r →
+        refused n ≡ recordReply r →
+        i < wholeRecords s →
+        Stopped m s next (refusalAt i (some n))
+    unfolding acceptedRecords recordReply
+    stopped n (le, played, rest) er en ed h =
+        let refusal : recordRefusal r ≡ some n = refused-by (recordRefusal r) n ed in
+        let here : recordRefusal (recordAt s i) ≡ some n = rw er at refusal in
+        let more : wholeRecords s - i ≡ suc (wholeRecords s - suc i) = omega arith in
+        let first : firstRefused s ≡ refusalAt i (some n) = sym (rw more at rest) ∙ stop s i (wholeRecords s - suc i) n here in
+        (rw first (en ∙ (untouched monitor r n refusal ∙ played)), sym first)
+
+  -- the end
+  pub ended : (monitor : Monitor) (i : ℕ) → Ran m s monitor i → wholeRecords s ≤ i → Stopped m s monitor none
+  unfolding acceptedRecords firstRefusedFrom
+  ended monitor i (le, played, rest) h =
+      let all : i ≡ wholeRecords s = omega arith in
+      let none-left : wholeRecords s - i ≡ 0 = omega arith in
+      let first : firstRefused s ≡ none = sym (rw none-left at rest) in
+      (rw (first, ← all) played, sym first)
+
+-- a file of one record
+which : (o : Option ℕ) (p : Refusal) → some p ≡ refusalAt 0 o → o ≡ some (p .number)
+which none p e = cc
+which (some k) p e =
+    let same : p .number ≡ k = ap (found 0 (λ (x : Refusal). x .number)) e in
+    ap some (sym same)
+
+at-zero : (o : Option ℕ) (p : Refusal) → some p ≡ refusalAt 0 o → p .index ≡ 0
+at-zero none p e = cc
+at-zero (some k) p e = ap (found 0 (λ (x : Refusal). x .index)) e
+
+no-refusal : (o : Option ℕ) → none ≡ refusalAt 0 o → o ≡ none
+no-refusal none e = refl
+no-refusal (some k) e = cc
+
+module _ (m : Monitor) (r : List ℕ) (next : Monitor) (long : length r ≡ 16) where
+  itself : recordAt r 0 ≡ r
+  itself = take-all 16 r (omega arith)
+
+  only : firstRefused r ≡ refusalAt 0 (recordRefusal r)
+  unfolding firstRefused firstRefusedFrom
+  only =
+      let one : wholeRecords r ≡ 1 = omega arith in
+      rw (one, itself) (by (recordRefusal r))
+    where
+      by : (o : Option ℕ) → orElse (refusalAt 0 o) none ≡ refusalAt 0 o
+      by none = refl
+      by (some k) = refl
+
+  pub refused-alone :
+      (p : Refusal) →
+      next ≡ playFrom m (callsBefore r (acceptedRecords r)) →
+      some p ≡ firstRefused r →
+      Made m r next (refused (p .number))
+  unfolding acceptedRecords callsBefore playFrom recordReply
+  refused-alone p en h =
+      let refusal : recordRefusal r ≡ some (p .number) = which (recordRefusal r) p (h ∙ only) in
+      let first : acceptedRecords r ≡ 0 = rw (← h) (at-zero (recordRefusal r) p (h ∙ only)) in
+      ((rw first at en) ∙ sym (untouched m r (p .number) refusal), rw refusal)
+
+  pub accepted-alone :
+      next ≡ playFrom m (callsBefore r (acceptedRecords r)) →
+      none ≡ firstRefused r →
+      Made m r next done
+  unfolding acceptedRecords callsBefore afterRecord recordReply
+  accepted-alone en h =
+      let refusal : recordRefusal r ≡ none = no-refusal (recordRefusal r) (h ∙ only) in
+      let one : wholeRecords r ≡ 1 = omega arith in
+      let all : acceptedRecords r ≡ 1 = rw (← h) one in
+      (rw itself at (rw all at en), rw refusal)
+
+-- what the first refused record is
+abbrev Found : List ℕ → (i n : ℕ) → Refusal → Type 0
+Found s i n p = (p .index < i + n) × (recordRefusal (recordAt s (p .index)) ≡ some (p .number))
+
+found-at : (s : List ℕ) (n i : ℕ) (p : Refusal) → some p ≡ firstRefusedFrom s i n → Found s i n p
+unfolding firstRefusedFrom
+found-at s zero i p e = let z : _≡_ {A = ℕ} 0 1 = cc in absurd (omega arith)
+found-at s (suc n) i p e = by (recordRefusal (recordAt s i)) refl e (found-at s n (suc i) p)
+  where
+    by :
+        (o : Option ℕ) →
+        recordRefusal (recordAt s i) ≡ o →
+        some p ≡ orElse (refusalAt i o) (firstRefusedFrom s (suc i) n) →
+        (some p ≡ firstRefusedFrom s (suc i) n → Found s (suc i) n p) →
+        Found s i (suc n) p
+    by none eo e later = (omega (arith, later e .0), later e .1)
+    by (some k) eo e later =
+        let index-is : p .index ≡ i = ap (found 0 (λ (x : Refusal). x .index)) e in
+        let number-is : p .number ≡ k = ap (found 0 (λ (x : Refusal). x .number)) e in
+        (omega arith, rw (index-is, number-is) eo)
+
+-- the records of a file's rest are the file's own
+rest-record : (s : List ℕ) (i k : ℕ) → recordAt (drop (16 * i) s) k ≡ recordAt s (i + k)
+rest-record s i k =
+    let further : 16 * i + 16 * k ≡ 16 * (i + k) = omega arith in
+    rw (drop-drop (16 * k) (16 * i) s, further)
+
+pub composed :
+    (m : Monitor) (s : List ℕ) (i k : ℕ) →
+    playFrom (playFrom m (callsBefore s i)) (callsBefore (drop (16 * i) s) k) ≡ playFrom m (callsBefore s (i + k))
+unfolding callsBefore playFrom
+composed m s i zero = rw (add-zero i)
+composed m s i (suc k) =
+    rw (add-suc i k, rest-record s i k)
+    (then-same _ _ (callsBefore (drop (16 * i) s) k) (callsBefore s (i + k)) (callOf (recordAt s (i + k))) (composed m s i k))
+
+skip :
+    (m : Monitor) (s : List ℕ) (j n : ℕ) →
+    recordRefusal (recordAt s j) ≡ some n →
+    playFrom m (callsBefore s (suc j)) ≡ playFrom m (callsBefore s j)
+unfolding callsBefore afterRecord
+skip m s j n e =
+    sym (then-one m (callsBefore s j) (callOf (recordAt s j))) ∙ untouched (playFrom m (callsBefore s j)) (recordAt s j) n e
+
+-- where a replay is, before record i
+abbrev pub Replayed : Monitor → List ℕ → Monitor → ℕ → Type 0
+Replayed m s monitor i = (i ≤ wholeRecords s) × (monitor ≡ playFrom m (callsBefore s i))
+
+module _ (m : Monitor) (s : List ℕ) (monitor next : Monitor) (i : ℕ) where
+  -- past a refused record
+  pub skipped :
+      (p : Refusal) →
+      Replayed m s monitor i →
+      Stopped monitor (drop (16 * i) s) next (some p) →
+      Replayed m s next (i + p .index + 1)
+  unfolding acceptedRecords firstRefused
+  skipped p (le, played) (en, h) =
+      let t = drop (16 * i) s in
+      let f = found-at t (wholeRecords t) 0 p h in
+      let here : recordRefusal (recordAt s (i + p .index)) ≡ some (p .number) = rw (rest-record s i (p .index)) at (f .1) in
+      let stop-at : acceptedRecords t ≡ p .index = rw (← h) refl in
+      (omega (arith, f .0, length-drop (16 * i) s),
+        rw (add-one (i + p .index))
+        ((rw (stop-at, played) at en) ∙ (composed m s i (p .index) ∙ sym (skip m s (i + p .index) (p .number) here))))
+
+  -- to the end
+  pub replayed :
+      Replayed m s monitor i →
+      Stopped monitor (drop (16 * i) s) next none →
+      next ≡ playFrom m (historyOf s)
+  unfolding acceptedRecords historyOf
+  replayed (le, played) (en, h) =
+      let t = drop (16 * i) s in
+      let all : acceptedRecords t ≡ wholeRecords t = rw (← h) refl in
+      let sum : i + wholeRecords t ≡ wholeRecords s = omega (arith, length-drop (16 * i) s) in
+      (rw (all, played) at en) ∙ (rw sum at (composed m s i (wholeRecords t)))

@@ -1,0 +1,254 @@
+-- Laws of one record.
+use mathlib.Core.Path.{_≡_, refl, sym, ap, _∙_}
+use mathlib.Core.Bool.{Bool, true, false, cond, not, _&&_}
+use mathlib.Core.List.{List, []}
+use mathlib.Core.Option.{Option, none, some}
+use Prim.Native.Nat.{ℕ, _+_, _-_, _*_, _/_, _<_, _≤_}
+use native.Mathlib.Nat.{zero-add, add-comm}
+use native.Mathlib.Numerals.{add-one}
+use native.Mathlib.Omega.{arith}
+use borrow.Author.Tests.{eq-eqb, ne-eqb, eqb-true, lt-leb}
+use borrow.Rule.Slice.PartAt.{part-to-end}
+use lib.Dec.{eqb}
+use lib.ListN.{length, getD, set, take, drop, replicate, length-take, length-drop, length-replicate}
+use lib.Seq.{take-all, getD-drop, paste, paste-suc}
+use Rattle.endian.specs.Bytes.{anySet}
+use Rattle.endian.specs.Loads.{number}
+use Rattle.endian.proofs.Numbers.{below, both-clear, first-set}
+use Rattle.logpage.specs.declared.Settings.{Settings}
+use Rattle.monitor.specs.declared.commands.Completion.{Completion}
+use Rattle.monitor.specs.declared.record.Monitor.{Monitor}
+use Rattle.monitor.specs.Answers.{Reply, refused, done, ended, unlessRefused}
+use Rattle.monitor.specs.Commands.{reaches, highestBelow, bucketOf, counterOf}
+use Rattle.monitor.specs.History.{Call, completion, elapsed, clock, after, playFrom, refusalOf}
+use Rattle.monitor.specs.Record.{afterCompletion, elapsedReply}
+use Rattle.monitor.specs.Refusals.{elapsedRefusal}
+use Rattle.events.specs.Records.{kindOf, part, unnamed, settingsOf, completionOf, elapsedOf, clockOf, callOfKind, callOf, isCompletion}
+use Rattle.events.specs.Records.{recordRefusal, recordReply, afterRecord}
+
+-- a part of at most eight bytes is loaded whole
+pub loaded : (l : List ℕ) (n : ℕ) → n ≤ 8 → number (take 8 (take n l)) ≡ number (take n l)
+loaded l n h = rw (take-all 8 (take n l) (omega (arith, length-take n l)))
+
+-- four bytes make a number of 32 bits
+pub fits :
+    (r : List ℕ) (n : ℕ) →
+    n ≡ number (take 8 (take 4 (drop 4 r))) →
+    ((k : ℕ) → getD r k 0 < 256) →
+    n < 4294967296
+fits r n e bytes =
+    rw (e, loaded (drop 4 r) 4 (omega arith)) (below (drop 4 r) (λ k. rw (getD-drop 4 r k 0) (bytes (4 + k))) 4)
+
+-- both parts are loaded whole, and a number is zero where no byte is set
+module _ (r : List ℕ) (from to rest a : ℕ) where
+  pub cleared :
+      (b : ℕ) →
+      a ≡ number (take 8 (take (to - from) (drop from r))) →
+      a ≡ 0 →
+      b ≡ number (take 8 (take (length r - rest) (drop rest r))) →
+      to - from ≤ 8 →
+      length r ≤ rest + 8 →
+      eqb b 0 ≡ not (anySet (unnamed from to rest r))
+  cleared b ea za eb short end =
+      rw (eb, part-to-end r rest, take-all 8 (drop rest r) (omega (arith, length-drop rest r)))
+      (both-clear (part from to r) (drop rest r) (sym (loaded (drop from r) (to - from) short) ∙ (sym ea ∙ za)))
+
+  pub not-cleared :
+      a ≡ number (take 8 (take (to - from) (drop from r))) →
+      (a ≡ 0 → ⊥) →
+      to - from ≤ 8 →
+      false ≡ not (anySet (unnamed from to rest r))
+  not-cleared ea na short =
+      first-set (part from to r) (drop rest r) (λ e. na (ea ∙ (loaded (drop from r) (to - from) short ∙ e)))
+
+-- one settings byte more
+pub one-byte :
+    (z r s : List ℕ) (i : ℕ) →
+    z ≡ replicate 4096 0 →
+    s ≡ paste z 0 (drop 1 r) i →
+    i < 13 →
+    length r ≡ 16 →
+    set s i (getD r (i + 1) 0) ≡ paste z 0 (drop 1 r) (i + 1)
+one-byte z r s i ez es h sixteen =
+    let long : length z ≡ 4096 = rw (ez) (length-replicate {A = ℕ} 4096 0) in
+    let from-one : getD r (i + 1) 0 ≡ getD (drop 1 r) i 0 = rw (getD-drop 1 r i 0, add-comm 1 i) in
+    let step = paste-suc z 0 (drop 1 r) i 0 (omega arith) (omega (arith, length-drop 1 r)) in
+    rw (es, from-one, add-one i)
+    (ap (λ (k : ℕ). set (paste z 0 (drop 1 r) i) k (getD (drop 1 r) i 0)) (sym (zero-add i)) ∙ step)
+
+pub thirteen-bytes :
+    (z r s : List ℕ) (i : ℕ) →
+    z ≡ replicate 4096 0 →
+    s ≡ paste z 0 (drop 1 r) i →
+    i ≡ 13 →
+    s ≡ settingsOf r
+unfolding settingsOf
+thirteen-bytes z r s i ez es e = rw (es, e, ez)
+
+-- what a record's call, or none, makes of the monitor and answers
+abbrev pub Made : Monitor → List ℕ → Monitor → Reply → Type 0
+Made m r next reply = (next ≡ afterRecord m r) × (reply ≡ recordReply r)
+
+module _ (m : Monitor) (r : List ℕ) (next : Monitor) (reply : Reply) where
+  pub stands-for :
+      (c : Call) →
+      callOf r ≡ some c →
+      next ≡ after c m →
+      reply ≡ unlessRefused (refusalOf c) done →
+      Made m r next reply
+  unfolding afterRecord recordReply recordRefusal playFrom
+  stands-for c e n a = (rw e n, rw e a)
+
+  pub stands-for-none : callOf r ≡ none → next ≡ m → reply ≡ refused 11 → Made m r next reply
+  unfolding afterRecord recordReply recordRefusal playFrom
+  stands-for-none e n a = (rw e n, rw e a)
+
+-- the kind and the bytes that it leaves unnamed decide
+known : (u : List ℕ) (c : Call) → true ≡ not (anySet u) → cond (anySet u) none (some c) ≡ some c
+known u c h = by (anySet u) h
+  where
+    by : (t : Bool) → true ≡ not t → cond t none (some c) ≡ some c
+    by false h = refl
+    by true h = cc
+
+not-known : (u : List ℕ) (c : Call) → false ≡ not (anySet u) → cond (anySet u) none (some c) ≡ none
+not-known u c h = by (anySet u) h
+  where
+    by : (t : Bool) → false ≡ not t → cond t none (some c) ≡ none
+    by true h = refl
+    by false h = cc
+
+pub not-sixteen : (r : List ℕ) → (length r ≡ 16 → ⊥) → callOf r ≡ none
+unfolding callOf
+not-sixteen r n = rw (ne-eqb (length r) 16 n)
+
+module _ (r : List ℕ) (sixteen : length r ≡ 16) where
+  by-kind : (k : ℕ) → kindOf r ≡ k → callOf r ≡ callOfKind k r
+  unfolding callOf
+  by-kind k e = rw (eq-eqb (length r) 16 sixteen, e)
+
+  pub known-call :
+      (k : ℕ) (u : List ℕ) (c : Call) →
+      callOfKind k r ≡ cond (anySet u) none (some c) →
+      kindOf r ≡ k →
+      true ≡ not (anySet u) →
+      callOf r ≡ some c
+  known-call k u c d e h = by-kind k e ∙ (d ∙ known u c h)
+
+  pub no-call :
+      (k : ℕ) (u : List ℕ) (c : Call) →
+      callOfKind k r ≡ cond (anySet u) none (some c) →
+      kindOf r ≡ k →
+      false ≡ not (anySet u) →
+      callOf r ≡ none
+  no-call k u c d e h = by-kind k e ∙ (d ∙ not-known u c h)
+
+  pub elapsed-call :
+      (ms : ℕ) →
+      ms ≡ number (take 8 (take 4 (drop 4 r))) →
+      kindOf r ≡ 3 →
+      true ≡ not (anySet (unnamed 1 4 8 r)) →
+      callOf r ≡ some (elapsed ms)
+  unfolding callOfKind elapsedOf
+  elapsed-call ms n e h =
+      rw (n, loaded (drop 4 r) 4 (omega arith)) (known-call 3 (unnamed 1 4 8 r) (elapsed (elapsedOf r)) refl e h)
+
+  pub clock-call :
+      (value : ℕ) →
+      value ≡ number (take 8 (take 8 (drop 4 r))) →
+      kindOf r ≡ 4 →
+      true ≡ not (anySet (unnamed 1 4 12 r)) →
+      callOf r ≡ some (clock value)
+  unfolding callOfKind clockOf
+  clock-call value n e h =
+      rw (n, loaded (drop 4 r) 8 (omega arith)) (known-call 4 (unnamed 1 4 12 r) (clock (clockOf r)) refl e h)
+
+  pub completion-call : isCompletion r ≡ true → callOf r ≡ some (completion (completionOf r))
+  unfolding callOf callOfKind isCompletion
+  completion-call h =
+      by (eqb (kindOf r) 2) refl (anySet (unnamed 2 4 8 r)) refl h
+    where
+      by :
+          (k : Bool) →
+          eqb (kindOf r) 2 ≡ k →
+          (u : Bool) →
+          anySet (unnamed 2 4 8 r) ≡ u →
+          (k && not u) ≡ true →
+          callOf r ≡ some (completion (completionOf r))
+      by true e false f h = rw (eq-eqb (length r) 16 sixteen, eqb-true (kindOf r) 2 e, f)
+      by true e true f h = cc
+      by false e u f h = cc
+
+  pub unknown-kind :
+      isCompletion r ≡ false →
+      (kindOf r ≡ 1 → ⊥) →
+      (kindOf r ≡ 3 → ⊥) →
+      (kindOf r ≡ 4 → ⊥) →
+      (kindOf r ≡ 5 → ⊥) →
+      callOf r ≡ none
+  unfolding callOf callOfKind isCompletion
+  unknown-kind h n1 n3 n4 n5 =
+      rw (eq-eqb (length r) 16 sixteen, ne-eqb (kindOf r) 1 n1, ne-eqb (kindOf r) 3 n3, ne-eqb (kindOf r) 4 n4, ne-eqb (kindOf r) 5 n5)
+      (by (eqb (kindOf r) 2) (anySet (unnamed 2 4 8 r)) (completion (completionOf r)) h)
+    where
+      by : (k u : Bool) (c : Call) → (k && not u) ≡ false → cond k (cond u none (some c)) none ≡ none
+      by true true c h = refl
+      by true false c h = cc
+      by false u c h = refl
+
+-- a latency below every threshold has no bucket, so it counts for nothing
+module _ (t : List ℕ) (us : ℕ) where
+  short : (i : ℕ) → us / 5000 ≤ getD t i 0 → reaches us (getD t i 0) ≡ false
+  short i h = lt-leb (5000 * (getD t i 0 + 1)) us (omega arith)
+
+  no-bucket :
+      us / 5000 ≤ getD t 3 0 →
+      us / 5000 ≤ getD t 2 0 →
+      us / 5000 ≤ getD t 1 0 →
+      us / 5000 ≤ getD t 0 0 →
+      highestBelow t us 4 ≡ none
+  unfolding highestBelow
+  no-bucket d c b a = rw (short 3 d, short 2 c, short 1 b, short 0 a)
+
+pub counts-for-none :
+    (s : Settings) (c : Completion) →
+    c .latency / 5000 ≤ getD (s .thresholds) 3 0 →
+    c .latency / 5000 ≤ getD (s .thresholds) 2 0 →
+    c .latency / 5000 ≤ getD (s .thresholds) 1 0 →
+    c .latency / 5000 ≤ getD (s .thresholds) 0 0 →
+    counterOf s c ≡ none
+unfolding counterOf bucketOf
+counts-for-none s c h3 h2 h1 h0 = rw (no-bucket (s .thresholds) (c .latency) h3 h2 h1 h0) (by (s .enabled))
+  where
+    by : (t : Bool) → _≡_ {A = Option ℕ} (cond t none none) none
+    by true = refl
+    by false = refl
+
+-- a completion that counts for nothing leaves the monitor as it was
+pub passed-over :
+    (m : Monitor) (r : List ℕ) (c : Completion) →
+    length r ≡ 16 →
+    isCompletion r ≡ true →
+    c ≡ completionOf r →
+    counterOf (m .settings) c ≡ none →
+    Made m r m done
+unfolding afterCompletion
+passed-over m r c sixteen is e n =
+    stands-for m r m done (completion (completionOf r)) (completion-call r sixteen is) (rw (rw e at n)) refl
+
+-- elapsed time is turned away, or not, whatever becomes of the window
+pub turned-away : (m : Monitor) (ms n : ℕ) → refused n ≡ elapsedReply m ms → refused n ≡ unlessRefused (elapsedRefusal ms) done
+unfolding elapsedReply
+turned-away m ms n h = by (elapsedRefusal ms) _ h
+  where
+    by : (o : Option ℕ) (e : Bool) → refused n ≡ unlessRefused o (ended e) → refused n ≡ unlessRefused o done
+    by (some k) e h = h
+    by none e h = cc
+
+pub let-through : (m : Monitor) (ms : ℕ) (b : Bool) → ended b ≡ elapsedReply m ms → done ≡ unlessRefused (elapsedRefusal ms) done
+unfolding elapsedReply
+let-through m ms b h = by (elapsedRefusal ms) _ h
+  where
+    by : (o : Option ℕ) (e : Bool) → ended b ≡ unlessRefused o (ended e) → done ≡ unlessRefused o done
+    by none e h = refl
+    by (some k) e h = cc

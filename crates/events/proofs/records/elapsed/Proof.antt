@@ -1,0 +1,39 @@
+-- `elapsed`: what the monitor answered, without what became of the window.
+use mathlib.Core.Path.{sym, ap, _∙_}
+use Rattle.monitor.specs.Answers.{saysElapsed}
+use Rattle.events.proofs.records.Laws.{turned-away, let-through}
+use borrow.Author.Needs.{needs}
+use Rattle.events.proofs.records.elapsed.Statement.{statement}
+use Rattle.events.proofs.records.elapsed.Tie as tie
+
+elapsed-requires : tie.Need-elapsed-requires
+elapsed-requires c κs = search needs
+
+enum-known-a : tie.Need-enum-known-a
+enum-known-a c = search needs
+
+enum-told : tie.Need-enum-told
+enum-told c = search needs
+
+enum-told-2 : tie.Need-enum-told-2
+enum-told-2 c = search needs
+
+returns : tie.Need-returns
+returns c =
+    let e = c .before .before .before .before .elapsed in
+    (e .ensures .0, turned-away _ _ _ (sym (ap saysElapsed (c .before .a .given .1)) ∙ e .ensures .1))
+
+returns-2 : tie.Need-returns-2
+returns-2 c =
+    let e = c .before .before .before .elapsed in
+    (e .ensures .0, let-through _ _ _ (sym (ap saysElapsed (c .enum-told .given .1)) ∙ e .ensures .1))
+
+returns-3 : tie.Need-returns-3
+returns-3 c =
+    let e = c .before .before .before .elapsed in
+    (e .ensures .0, let-through _ _ _ (sym (ap saysElapsed (c .enum-told2 .given .1)) ∙ e .ensures .1))
+
+pub elapsed-spec : {M : Type 1} → statement M
+elapsed-spec =
+    tie.close
+    (tie.spec elapsed-requires enum-known-a enum-told enum-told-2 returns returns-2 returns-3)

@@ -1,0 +1,123 @@
+-- The page program's records: the call that each stands for, its refusal, and the history of a file.
+use mathlib.Core.Bool.{Bool, true, false, cond, not, _&&_}
+use mathlib.Core.List.{List, [], _∷_, _++_}
+use mathlib.Core.Option.{Option, none, some}
+use Prim.Native.Nat.{ℕ, zero, suc, _+_, _-_, _*_, _/_, _%_}
+use lib.Dec.{eqb}
+use lib.ListN.{length, getD, take, drop, replicate}
+use Rattle.endian.specs.Bytes.{anySet}
+use Rattle.endian.specs.Loads.{number}
+use Rattle.monitor.specs.declared.commands.Completion.{Completion}
+use Rattle.monitor.specs.declared.record.Monitor.{Monitor}
+use Rattle.monitor.specs.Answers.{Reply, refused, done, unlessRefused}
+use Rattle.monitor.specs.History.{Call, settings, completion, elapsed, clock, powerUp, History, playFrom, refusalOf, found, andThen, orElse}
+use Rattle.events.specs.declared.files.Place.{Place}
+use Rattle.events.specs.declared.files.Place.the-variants as place
+
+-- Byte 0 is the kind.
+abbrev pub kindOf : List ℕ → ℕ
+kindOf r = getD r 0 0
+
+-- the bytes from a place up to another
+abbrev pub part : (from to : ℕ) → List ℕ → List ℕ
+part from to r = take (to - from) (drop from r)
+
+-- the bytes that a kind leaves unnamed: from a place up to another, and from a third on
+abbrev pub unnamed : (from to rest : ℕ) → List ℕ → List ℕ
+unnamed from to rest r = part from to r ++ drop rest r
+
+-- an unnamed byte not zero: the record stands for no call
+abbrev ifClear : List ℕ → Call → Option Call
+ifClear bytes c = cond (anySet bytes) none (some c)
+
+-- 1 settings: bytes 1-13 are settings bytes 0-12, and the others of the 4,096 are zero
+unfoldable pub settingsOf : List ℕ → List ℕ
+settingsOf r = part 1 14 r ++ replicate 4083 0
+
+-- 2 completion: byte 1 opcode, 4-7 latency
+unfoldable pub completionOf : List ℕ → Completion
+completionOf r = record { opcode = getD r 1 0; latency = number (part 4 8 r) }
+
+-- 3 elapsed: 4-7; 4 clock: 4-11
+unfoldable pub elapsedOf : List ℕ → ℕ
+elapsedOf r = number (part 4 8 r)
+
+unfoldable pub clockOf : List ℕ → ℕ
+clockOf r = number (part 4 12 r)
+
+-- a record of 16 bytes by its kind, each with the bytes that it leaves unnamed; 5 is power-up
+unfoldable pub callOfKind : ℕ → List ℕ → Option Call
+callOfKind kind r =
+    cond (eqb kind 1) (ifClear (unnamed 14 16 16 r) (settings (settingsOf r)))
+    (cond (eqb kind 2) (ifClear (unnamed 2 4 8 r) (completion (completionOf r)))
+    (cond (eqb kind 3) (ifClear (unnamed 1 4 8 r) (elapsed (elapsedOf r)))
+    (cond (eqb kind 4) (ifClear (unnamed 1 4 12 r) (clock (clockOf r)))
+    (cond (eqb kind 5) (ifClear (unnamed 1 8 8 r) powerUp) none))))
+
+-- the call that a record stands for, if any
+unfoldable pub callOf : List ℕ → Option Call
+callOf r = cond (eqb (length r) 16) (callOfKind (kindOf r) r) none
+
+-- a completion's record
+unfoldable pub isCompletion : List ℕ → Bool
+isCompletion r = eqb (kindOf r) 2 && not (anySet (unnamed 2 4 8 r))
+
+-- kind unknown, or an unnamed byte not zero: 11, which is checked first, before the call that it stands for is made
+unfoldable pub recordRefusal : List ℕ → Option ℕ
+recordRefusal r = found (some 11) refusalOf (callOf r)
+
+unfoldable pub recordReply : List ℕ → Reply
+recordReply r = unlessRefused (recordRefusal r) done
+
+-- what a record leaves of a monitor
+unfoldable pub afterRecord : Monitor → List ℕ → Monitor
+afterRecord m r = playFrom m (andThen (callOf r) [])
+
+-- record i of a file, from 0
+abbrev pub recordAt : List ℕ → ℕ → List ℕ
+recordAt s i = take 16 (drop (16 * i) s)
+
+-- how many whole records a file has
+abbrev pub wholeRecords : List ℕ → ℕ
+wholeRecords s = length s / 16
+
+-- the calls of a file's first n records, the newest first; a record refused by 11 stands for none
+unfoldable pub callsBefore : List ℕ → ℕ → History
+callsBefore s zero = []
+callsBefore s (suc n) = andThen (callOf (recordAt s n)) (callsBefore s n)
+
+-- the calls of a file; bytes left over stand for none
+unfoldable pub historyOf : List ℕ → History
+historyOf s = callsBefore s (wholeRecords s)
+
+-- a refused record: its number from 0, and the refusal
+pub record Refusal : Type 0 where
+  pub index : ℕ
+  pub number : ℕ
+
+abbrev pub refusalAt : ℕ → Option ℕ → Option Refusal
+refusalAt i none = none
+refusalAt i (some n) = some (record { index = i; number = n })
+
+-- the first refused record among the n from record i on
+unfoldable pub firstRefusedFrom : List ℕ → (i n : ℕ) → Option Refusal
+firstRefusedFrom s i zero = none
+firstRefusedFrom s i (suc n) =
+    orElse (refusalAt i (recordRefusal (recordAt s i))) (firstRefusedFrom s (suc i) n)
+
+-- the first refused record of a file
+unfoldable pub firstRefused : List ℕ → Option Refusal
+firstRefused s = firstRefusedFrom s 0 (wholeRecords s)
+
+-- how many records stand before it, or how many there are
+unfoldable pub acceptedRecords : List ℕ → ℕ
+acceptedRecords s = found (wholeRecords s) (λ (r : Refusal). r .index) (firstRefused s)
+
+-- what the code's places say
+abbrev pub saysPlace : Place → Option Refusal
+saysPlace (place.Refused i n) = some (record { index = i; number = n })
+saysPlace place.End = none
+
+-- 1 to 15 bytes left over: 12
+unfoldable pub endRefusal : ℕ → Option ℕ
+endRefusal n = cond (eqb (n % 16) 0) none (some 12)
