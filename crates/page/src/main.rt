@@ -61,6 +61,16 @@ fn block(m: Monitor, base: u64) -> Taken
     Taken { monitor, n }
 }
 
+// The page, as text.
+fn print_page(m: Monitor) {
+    let mut page = [0; 512];
+    m.page(&mut page);
+    let text = events::page_text(&page);
+    let bytes = text.bytes;
+    let n = text.length;
+    io::write_all(1, &bytes[..n]);
+}
+
 fn main() {
     let mut monitor = Monitor::new();
     let mut whole: u64 = 0;
@@ -80,5 +90,5 @@ fn main() {
         }
         Answer::Done => {}
     }
-    // Here the page is printed.
+    print_page(monitor);
 }

@@ -43,11 +43,11 @@ refused-requires c κs = search needs
 enum-told : tie.Need-enum-told Inv-loop μ-loop
 enum-told c = search needs
 
+print-page-requires : tie.Need-print-page-requires Inv-loop μ-loop
+print-page-requires c κs = search needs
+
 returns : tie.Need-returns Inv-loop μ-loop
 returns c = search needs
-
-returns-2 : tie.Need-returns-2 Inv-loop μ-loop
-returns-2 c = search needs
 
 pub main-spec : {M : Type 1} → statement M
 main-spec =
@@ -66,5 +66,5 @@ main-spec =
     enum-known-end
     refused-requires
     enum-told
-    returns
-    returns-2)
+    print-page-requires
+    returns)

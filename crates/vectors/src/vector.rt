@@ -1,0 +1,148 @@
+// One vector of the file: its call or event file given to the product, and the answers compared.
+use crate::compare;
+use crate::input;
+use crate::input::Part;
+use crate::play;
+use monitor::Answer;
+use monitor::Monitor;
+
+// What came of a vector.
+pub enum Verdict {
+    Agrees,
+    Differs,
+    // The input ended before the vector did, or a part of it does not fit.
+    Unread,
+}
+
+fn judged(agrees: bool) -> Verdict {
+    if agrees {
+        Verdict::Agrees
+    } else {
+        Verdict::Differs
+    }
+}
+
+// Of two parts of a vector.
+fn both(a: Verdict, b: Verdict) -> Verdict {
+    match a {
+        Verdict::Agrees => b,
+        Verdict::Differs => match b {
+            Verdict::Agrees => a,
+            Verdict::Differs => a,
+            Verdict::Unread => b,
+        },
+        Verdict::Unread => a,
+    }
+}
+
+// The page that a monitor shows, into the buffer of the vector.
+fn page(m: Monitor) -> Verdict {
+    let Part::Read(n) = input::number(2) else {
+        return Verdict::Unread;
+    };
+    let mut bytes = [0; 512];
+    let Part::Read(refusal) = input::answer(&mut bytes) else {
+        return Verdict::Unread;
+    };
+    judged(compare::page(m, n, refusal, &bytes))
+}
+
+// The settings that a monitor gives back, into the buffer of the vector.
+fn settings_back(m: Monitor) -> Verdict {
+    let Part::Read(n) = input::number(2) else {
+        return Verdict::Unread;
+    };
+    let mut bytes = [0; 13];
+    let Part::Read(refusal) = input::answer(&mut bytes) else {
+        return Verdict::Unread;
+    };
+    judged(compare::settings_back(m, n, refusal, &bytes))
+}
+
+// An event vector.
+fn events() -> Verdict {
+    let mut file = io::large_buffer();
+    let Part::Read(bytes) = input::list(4, 1, &mut file) else {
+        return Verdict::Unread;
+    };
+    let mut presets = [0; 2295];
+    let Part::Read(preset_bytes) = input::list(1, 9, &mut presets) else {
+        return Verdict::Unread;
+    };
+    let mut refusals = [0; 20485];
+    let Part::Read(refusal_bytes) = input::list(2, 5, &mut refusals) else {
+        return Verdict::Unread;
+    };
+    let p = play::play(
+        input::first(&file, bytes),
+        input::first(&presets, preset_bytes),
+        input::first(&refusals, refusal_bytes),
+    );
+    let m = p.monitor;
+    let refused = judged(p.agrees);
+    let shown = page(m);
+    let given = settings_back(m);
+    both(refused, both(shown, given))
+}
+
+// Puts bytes into settings, each at its place. Whether all places were there.
+fn patch(s: &mut [u8], patches: &[u8]) -> bool {
+    let mut k = 0;
+    while k < patches.len() / 3 {
+        let at = 3 * k;
+        let place = endian::word(patches[at], patches[at + 1]) as usize;
+        if s.len() <= place {
+            return false;
+        }
+        s[place] = patches[at + 2];
+        k += 1;
+    }
+    true
+}
+
+// Settings given to a new monitor, and given back by it.
+fn configure(s: &[u8], refusal: usize, bytes: &[u8]) -> bool {
+    let o = Monitor::new().configure(s);
+    let m = o.next;
+    let answer = o.answer;
+    match answer {
+        Answer::Refused(number) => number as usize == refusal,
+        Answer::Done => compare::settings_back(m, 4096, refusal, bytes),
+    }
+}
+
+// The same of settings that are zero but for the patches.
+fn configure_patched(s: &mut [u8], patches: &[u8], refusal: usize, bytes: &[u8]) -> bool {
+    if patch(s, patches) {
+        configure(s, refusal, bytes)
+    } else {
+        false
+    }
+}
+
+// A settings vector.
+fn settings() -> Verdict {
+    let Part::Read(n) = input::number(2) else {
+        return Verdict::Unread;
+    };
+    let mut patches = [0; 765];
+    let Part::Read(patch_bytes) = input::list(1, 3, &mut patches) else {
+        return Verdict::Unread;
+    };
+    let mut bytes = [0; 13];
+    let Part::Read(refusal) = input::answer(&mut bytes) else {
+        return Verdict::Unread;
+    };
+    let mut s = [0; compare::LONGEST];
+    if n <= compare::LONGEST {
+        let given = input::first(&patches, patch_bytes);
+        judged(configure_patched(&mut s[0..n], given, refusal, &bytes))
+    } else {
+        Verdict::Differs
+    }
+}
+
+// The next vector: of settings, or else of events.
+pub fn next(of_settings: bool) -> Verdict {
+    if of_settings { settings() } else { events() }
+}
