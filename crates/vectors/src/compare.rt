@@ -1,4 +1,6 @@
 // The product's answers on lent buffers, held against the expected ones.
+ghost use mathlib.Core.Path.{_≡_};
+ghost use lib.ListN.{length};
 use monitor::Answer;
 use monitor::Monitor;
 
@@ -7,6 +9,13 @@ const LENT: u8 = 165;
 
 // The longest buffer that a vector lends.
 pub const LONGEST: usize = 4200;
+
+// A buffer to lend from.
+fn lent() -> [u8; LONGEST]
+    ensures { λ r. ⌜ 4200 ≡ length r ⌝ }
+{
+    [LENT; LONGEST]
+}
 
 // Whether a buffer starts with these bytes, and every other byte of it is `rest`.
 pub fn holds(s: &[u8], bytes: &[u8], rest: u8) -> bool {
@@ -55,7 +64,7 @@ fn settings_in(m: Monitor, s: &mut [u8], refusal: usize, bytes: &[u8]) -> bool {
 
 // The page, into a buffer of this length.
 pub fn page(m: Monitor, n: usize, refusal: usize, bytes: &[u8]) -> bool {
-    let mut buffer = [LENT; LONGEST];
+    let mut buffer = lent();
     if n <= LONGEST {
         page_in(m, &mut buffer[0..n], refusal, bytes)
     } else {
@@ -65,7 +74,7 @@ pub fn page(m: Monitor, n: usize, refusal: usize, bytes: &[u8]) -> bool {
 
 // The settings given back, into a buffer of this length.
 pub fn settings_back(m: Monitor, n: usize, refusal: usize, bytes: &[u8]) -> bool {
-    let mut buffer = [LENT; LONGEST];
+    let mut buffer = lent();
     if n <= LONGEST {
         settings_in(m, &mut buffer[0..n], refusal, bytes)
     } else {

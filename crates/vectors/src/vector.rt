@@ -65,11 +65,11 @@ fn events() -> Verdict {
     let Part::Read(bytes) = input::list(4, 1, &mut file) else {
         return Verdict::Unread;
     };
-    let mut presets = [0; 2295];
+    let mut presets = io::buffer();
     let Part::Read(preset_bytes) = input::list(1, 9, &mut presets) else {
         return Verdict::Unread;
     };
-    let mut refusals = [0; 20485];
+    let mut refusals = io::large_buffer();
     let Part::Read(refusal_bytes) = input::list(2, 5, &mut refusals) else {
         return Verdict::Unread;
     };
@@ -125,7 +125,7 @@ fn settings() -> Verdict {
     let Part::Read(n) = input::number(2) else {
         return Verdict::Unread;
     };
-    let mut patches = [0; 765];
+    let mut patches = io::buffer();
     let Part::Read(patch_bytes) = input::list(1, 3, &mut patches) else {
         return Verdict::Unread;
     };
@@ -133,7 +133,7 @@ fn settings() -> Verdict {
     let Part::Read(refusal) = input::answer(&mut bytes) else {
         return Verdict::Unread;
     };
-    let mut s = [0; compare::LONGEST];
+    let mut s = io::large_buffer();
     if n <= compare::LONGEST {
         let given = input::first(&patches, patch_bytes);
         judged(configure_patched(&mut s[0..n], given, refusal, &bytes))
