@@ -31,6 +31,11 @@ unfolding anySet
 none-set [] e = refl
 none-set (b ∷ bs) e = by (eqb b 0) refl e (none-set bs)
   where
-    by : (t : Bool) → eqb b 0 ≡ t → (not t || anySet bs) ≡ false → (anySet bs ≡ false → bs ≡ replicate (length bs) 0) → b ∷ bs ≡ 0 ∷ replicate (length bs) 0
+    by :
+        (t : Bool) →
+        eqb b 0 ≡ t →
+        (not t || anySet bs) ≡ false →
+        (anySet bs ≡ false → bs ≡ replicate (length bs) 0) →
+        b ∷ bs ≡ 0 ∷ replicate (length bs) 0
     by true h q rest = λ i. eqb-true b 0 h i ∷ rest q i
     by false h q rest = absurd (true≢false q)

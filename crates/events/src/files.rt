@@ -7,6 +7,7 @@ ghost use Rattle.events.specs.Records.{acceptedRecords, saysPlace, endRe
 use crate::records;
 use monitor::Answer;
 use monitor::Monitor;
+use monitor::NOT_COUNTED;
 use monitor::Outcome;
 
 // Where a run stopped: at a refused record, with its number from 0 and the refusal, or at the end.
@@ -33,7 +34,8 @@ pub fn run(m: Monitor, s: &[u8]) -> Stop
         if records::is_completion(r) {
             let c = records::completion(r);
             let settings = monitor.settings;
-            if records::below(settings, c) {
+            // Most completions count for nothing, which leaves the monitor as it is: they are spared the call.
+            if c.counter(settings) == NOT_COUNTED {
                 i += 1;
             } else {
                 let o = monitor.completion(c);

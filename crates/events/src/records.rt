@@ -8,9 +8,7 @@ ghost use Rattle.endian.specs.Bytes.{anySet};
 ghost use Rattle.monitor.specs.Answers.{saysAnswer, unlessRefused, refused, done};
 ghost use Rattle.monitor.specs.Record.{afterSettings, settingsReply, afterElapsed};
 ghost use Rattle.monitor.specs.Refusals.{elapsedRefusal};
-ghost use Rattle.monitor.specs.Commands.{counterOf};
 ghost use Rattle.events.specs.Records.{unnamed, settingsOf, completionOf, isCompletion, afterRecord, recordReply};
-use logpage::Settings;
 use monitor::Answer;
 use monitor::Completion;
 use monitor::ElapsedAnswer;
@@ -65,24 +63,6 @@ pub(crate) fn completion(r: &[u8]) -> Completion
     Completion {
         opcode: r[1],
         latency: endian::load(&r[4..8]) as u32,
-    }
-}
-
-// Whether a completion is below every threshold. It counts for nothing then, and the monitor need not be asked: most
-// completions are fast, and this spares the record's way through the call.
-pub(crate) fn below(s: Settings, c: Completion) -> bool
-    ensures { λ b. ⌜ (b ≡ true → counterOf s c ≡ none) ⌝ }
-{
-    let t = s.thresholds;
-    let increments = c.latency / 5000;
-    if (t[3] as u32) < increments {
-        false
-    } else if (t[2] as u32) < increments {
-        false
-    } else if (t[1] as u32) < increments {
-        false
-    } else {
-        increments <= t[0] as u32
     }
 }
 

@@ -90,8 +90,8 @@ impl Completion {
         if ms < 65535 { ms as u16 } else { 65535 }
     }
 
-    // The counter that the completion counts for.
-    pub(crate) fn counter(self, s: Settings) -> u16
+    // The counter that the completion counts for, or NOT_COUNTED.
+    pub fn counter(self, s: Settings) -> u16
         ensures { λ r. ⌜ saysCounter r ≡ counterOf s self ⌝ }
     {
         if s.enabled {

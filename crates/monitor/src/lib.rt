@@ -12,6 +12,7 @@ pub use answers::Answer;
 pub use answers::CompletionAnswer;
 pub use answers::ElapsedAnswer;
 pub use commands::Completion;
+pub use commands::NOT_COUNTED;
 pub use record::CompletionOutcome;
 pub use record::ElapsedOutcome;
 pub use record::Monitor;

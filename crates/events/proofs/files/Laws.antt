@@ -10,10 +10,12 @@ use lib.ListN.{length, take, drop, length-take, length-drop}
 use lib.Seq.{take-all, drop-drop}
 use Rattle.monitor.specs.declared.record.Monitor.{Monitor}
 use Rattle.monitor.specs.Answers.{refused, done, unlessRefused}
-use Rattle.monitor.specs.History.{Call, settings, completion, elapsed, clock, powerUp, page, settingsBack, History, after, playFrom, refusalOf, found, andThen, orElse}
+use Rattle.monitor.specs.History.{Call, settings, completion, elapsed, clock, powerUp, page, settingsBack, History}
+use Rattle.monitor.specs.History.{after, playFrom, refusalOf, found, andThen, orElse}
 use Rattle.monitor.specs.Record.{afterSettings, afterElapsed, afterClock}
 use Rattle.events.proofs.records.Laws.{Made}
-use Rattle.events.specs.Records.{callOf, recordRefusal, recordReply, afterRecord, recordAt, wholeRecords, callsBefore, historyOf}
+use Rattle.events.specs.Records.{callOf, recordRefusal, recordReply, afterRecord, recordAt, wholeRecords}
+use Rattle.events.specs.Records.{callsBefore, historyOf}
 use Rattle.events.specs.Records.{Refusal, refusalAt, firstRefusedFrom, firstRefused, acceptedRecords}
 
 -- an answer says whether there was a refusal, and which
@@ -45,7 +47,9 @@ untouched m r n e = by (callOf r) e
     by (some c) e = untouched-by c m n e
 
 -- one call more, or none
-then-one : (m : Monitor) (h : History) (o : Option Call) → playFrom (playFrom m h) (andThen o []) ≡ playFrom m (andThen o h)
+then-one :
+    (m : Monitor) (h : History) (o : Option Call) →
+    playFrom (playFrom m h) (andThen o []) ≡ playFrom m (andThen o h)
 unfolding playFrom
 then-one m h none = refl
 then-one m h (some c) = refl

@@ -3,11 +3,11 @@ use mathlib.Core.Path.{_≡_, refl, sym, ap, _∙_}
 use mathlib.Core.Bool.{Bool, true, false, cond, not, _&&_}
 use mathlib.Core.List.{List}
 use mathlib.Core.Option.{Option, none, some}
-use Prim.Native.Nat.{ℕ, _+_, _-_, _*_, _/_, _<_, _≤_}
+use Prim.Native.Nat.{ℕ, _+_, _-_, _<_, _≤_}
 use native.Mathlib.Nat.{zero-add, add-comm}
 use native.Mathlib.Numerals.{add-one}
 use native.Mathlib.Omega.{arith}
-use borrow.Author.Tests.{eq-eqb, ne-eqb, eqb-true, lt-leb}
+use borrow.Author.Tests.{eq-eqb, ne-eqb, eqb-true}
 use borrow.Rule.Slice.PartAt.{part-to-end}
 use lib.Dec.{eqb}
 use lib.ListN.{length, getD, set, take, drop, replicate, length-take, length-drop, length-replicate}
@@ -15,15 +15,15 @@ use lib.Seq.{take-all, getD-drop, paste, paste-suc}
 use Rattle.endian.specs.Bytes.{anySet}
 use Rattle.endian.specs.Loads.{number}
 use Rattle.endian.proofs.Numbers.{below, both-clear, first-set}
-use Rattle.logpage.specs.declared.Settings.{Settings}
 use Rattle.monitor.specs.declared.commands.Completion.{Completion}
 use Rattle.monitor.specs.declared.record.Monitor.{Monitor}
 use Rattle.monitor.specs.Answers.{Reply, refused, done, ended, unlessRefused}
-use Rattle.monitor.specs.Commands.{reaches, highestBelow, bucketOf, counterOf}
+use Rattle.monitor.specs.Commands.{saysCounter, counterOf}
 use Rattle.monitor.specs.History.{Call, completion, elapsed, clock, after, playFrom, refusalOf}
 use Rattle.monitor.specs.Record.{afterCompletion, elapsedReply}
 use Rattle.monitor.specs.Refusals.{elapsedRefusal}
-use Rattle.events.specs.Records.{kindOf, part, unnamed, settingsOf, completionOf, elapsedOf, clockOf, callOfKind, callOf, isCompletion}
+use Rattle.events.specs.Records.{kindOf, part, unnamed, settingsOf, completionOf, elapsedOf, clockOf, callOfKind}
+use Rattle.events.specs.Records.{callOf, isCompletion}
 use Rattle.events.specs.Records.{recordRefusal, recordReply, afterRecord}
 
 -- a part of at most eight bytes is loaded whole
@@ -196,48 +196,25 @@ module _ (r : List ℕ) (sixteen : length r ≡ 16) where
       by true false c h = cc
       by false u c h = refl
 
--- a latency below every threshold has no bucket, so it counts for nothing
-module _ (t : List ℕ) (us : ℕ) where
-  short : (i : ℕ) → us / 5000 ≤ getD t i 0 → reaches us (getD t i 0) ≡ false
-  short i h = lt-leb (5000 * (getD t i 0 + 1)) us (omega arith)
-
-  no-bucket :
-      us / 5000 ≤ getD t 3 0 →
-      us / 5000 ≤ getD t 2 0 →
-      us / 5000 ≤ getD t 1 0 →
-      us / 5000 ≤ getD t 0 0 →
-      highestBelow t us 4 ≡ none
-  unfolding highestBelow
-  no-bucket d c b a = rw (short 3 d, short 2 c, short 1 b, short 0 a)
-
-pub counts-for-none :
-    (s : Settings) (c : Completion) →
-    c .latency / 5000 ≤ getD (s .thresholds) 3 0 →
-    c .latency / 5000 ≤ getD (s .thresholds) 2 0 →
-    c .latency / 5000 ≤ getD (s .thresholds) 1 0 →
-    c .latency / 5000 ≤ getD (s .thresholds) 0 0 →
-    counterOf s c ≡ none
-unfolding counterOf bucketOf
-counts-for-none s c h3 h2 h1 h0 = rw (no-bucket (s .thresholds) (c .latency) h3 h2 h1 h0) (by (s .enabled))
-  where
-    by : (t : Bool) → _≡_ {A = Option ℕ} (cond t none none) none
-    by true = refl
-    by false = refl
-
 -- a completion that counts for nothing leaves the monitor as it was
 pub passed-over :
-    (m : Monitor) (r : List ℕ) (c : Completion) →
+    (m : Monitor) (r : List ℕ) (c : Completion) (n : ℕ) →
     length r ≡ 16 →
     isCompletion r ≡ true →
     c ≡ completionOf r →
-    counterOf (m .settings) c ≡ none →
+    saysCounter n ≡ counterOf (m .settings) c →
+    n ≡ 12 →
     Made m r m done
 unfolding afterCompletion
-passed-over m r c sixteen is e n =
-    stands-for m r m done (completion (completionOf r)) (completion-call r sixteen is) (rw (rw e at n)) refl
+passed-over m r c n sixteen is e says twelve =
+    let nothing : counterOf (m .settings) c ≡ none = sym says ∙ ap saysCounter twelve in
+    stands-for m r m done (completion (completionOf r)) (completion-call r sixteen is) (rw (rw e at nothing)) refl
 
 -- elapsed time is turned away, or not, whatever becomes of the window
-pub turned-away : (m : Monitor) (ms n : ℕ) → refused n ≡ elapsedReply m ms → refused n ≡ unlessRefused (elapsedRefusal ms) done
+pub turned-away :
+    (m : Monitor) (ms n : ℕ) →
+    refused n ≡ elapsedReply m ms →
+    refused n ≡ unlessRefused (elapsedRefusal ms) done
 unfolding elapsedReply
 turned-away m ms n h = by (elapsedRefusal ms) _ h
   where
@@ -245,7 +222,10 @@ turned-away m ms n h = by (elapsedRefusal ms) _ h
     by (some k) e h = h
     by none e h = cc
 
-pub let-through : (m : Monitor) (ms : ℕ) (b : Bool) → ended b ≡ elapsedReply m ms → done ≡ unlessRefused (elapsedRefusal ms) done
+pub let-through :
+    (m : Monitor) (ms : ℕ) (b : Bool) →
+    ended b ≡ elapsedReply m ms →
+    done ≡ unlessRefused (elapsedRefusal ms) done
 unfolding elapsedReply
 let-through m ms b h = by (elapsedRefusal ms) _ h
   where

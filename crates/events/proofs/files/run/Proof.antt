@@ -39,8 +39,8 @@ is-completion-requires c κs = sixteen _ (c .before .before .loop .i) (search ne
 completion-requires : tie.Need-completion-requires Inv-loop μ-loop
 completion-requires c κs = sixteen _ (c .before .before .before .before .loop .i) (search needs)
 
-below-requires : tie.Need-below-requires Inv-loop μ-loop
-below-requires c κs = search needs
+counter-requires : tie.Need-counter-requires Inv-loop μ-loop
+counter-requires c κs = search needs
 
 add-i : tie.Need-add-i Inv-loop μ-loop
 add-i c = search needs
@@ -53,9 +53,10 @@ loop-again c =
     let r = c .before .before .before in
     let l = r .before .before .before .before .before .loop in
     let made =
-    passed-over _ _ _ (sixteen _ (l .i) (search needs)) (sym (r .before .before .is-completion .ensures) ∙ r .before .if1 .taken)
+    passed-over _ _ _ _ (sixteen _ (l .i) (search needs)) (sym (r .before .before .is-completion .ensures) ∙ r .before .if1 .taken)
     (r .completion .ensures)
-    (c .before .below .ensures (c .if2 .taken))
+    (c .before .counter .ensures)
+    (c .if2 .taken)
     in
     went-on _ _ _ _ (l .i) _ (l .inv) (the-record _ (l .i)) (made .0) (made .1) (search needs)
 
@@ -127,7 +128,7 @@ run-spec =
     part-r-end
     is-completion-requires
     completion-requires
-    below-requires
+    counter-requires
     add-i
     loop-less
     loop-again
