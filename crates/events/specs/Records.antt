@@ -10,7 +10,8 @@ use Rattle.endian.specs.Loads.{number}
 use Rattle.monitor.specs.declared.commands.Completion.{Completion}
 use Rattle.monitor.specs.declared.record.Monitor.{Monitor}
 use Rattle.monitor.specs.Answers.{Reply, refused, done, unlessRefused}
-use Rattle.monitor.specs.History.{Call, settings, completion, elapsed, clock, powerUp, History, playFrom, refusalOf, found, andThen, orElse}
+use Rattle.monitor.specs.History.{Call, settings, completion, elapsed, clock, powerUp, History, playFrom, refusalOf}
+use Rattle.monitor.specs.History.{found, andThen, orElse}
 use Rattle.events.specs.declared.files.Place.{Place}
 use Rattle.events.specs.declared.files.Place.the-variants as place
 

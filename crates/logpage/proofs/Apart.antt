@@ -18,7 +18,8 @@ use Rattle.logpage.specs.declared.Window.{Window}
 use Rattle.logpage.specs.declared.page.LogPage.{LogPage}
 use Rattle.logpage.proofs.block.Laws.{bucket-fields, flag-below, bits-fit}
 use Rattle.logpage.proofs.page.Laws.{headWidths, headValues, head-fields, tailWidths, tailValues, tail-fields}
-use Rattle.logpage.proofs.Places.{length-buckets, length-downward, length-block, length-head, length-windows, downward-at}
+use Rattle.logpage.proofs.Places.{length-buckets, length-downward, length-block, length-head, length-windows}
+use Rattle.logpage.proofs.Places.{downward-at}
 
 -- what the code's types hold
 pub record FitsSettings (s : Settings) : Type 0 where

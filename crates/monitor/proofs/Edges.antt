@@ -1,19 +1,114 @@
 -- The table of edges: each row is computed.
-use mathlib.Core.Path.{refl}
+use mathlib.Core.Path.{_≡_, refl, ap, _∙_}
+use mathlib.Core.Bool.{true, false}
+use mathlib.Core.List.{List, [], _∷_}
+use mathlib.Core.Option.{Option, none, some}
+use Prim.Native.Nat.{ℕ, _*_}
 use native.Mathlib.Omega.{arith}
-use Rattle.logpage.proofs.Places.{stamp-at}
-use Rattle.logpage.specs.Fields.{noSettings, emptyWindow, noDebugLog}
+use lib.ListN.{getD}
 use Rattle.endian.specs.Bytes.{anySet}
 use Rattle.endian.specs.Stores.{lowFirst}
+use Rattle.logpage.proofs.Places.{stamp-at}
+use Rattle.logpage.specs.Fields.{emptyWindow, noDebugLog}
+use Rattle.monitor.specs.declared.record.Monitor.{Monitor}
 use Rattle.monitor.specs.Commands.{kindOf, highestBelow, bucketOf, counterOf, millisecondsOf}
 use Rattle.monitor.specs.Counting.{loads, countedIn, triggers}
-use Rattle.monitor.specs.Edges.{elapsedReplies, EdgesHold}
-use Rattle.monitor.specs.Record.{newMonitor, afterSettings, afterCompletion, completionReply, afterElapsed, elapsedReply}
+use Rattle.monitor.specs.Edges.{enabledWith, read, usual, elapsedReplies, bucket, measures, readReply, Holds, EdgesHold}
+use Rattle.monitor.specs.Record.{noLoads, newMonitor, afterSettings, afterCompletion, completionReply}
+use Rattle.monitor.specs.Record.{afterElapsed, elapsedReply}
 use Rattle.monitor.specs.Refusals.{settingsRefusal, fieldRefusal, elapsedRefusal}
 use Rattle.monitor.specs.Settings.{decoded, encoded}
 use Rattle.monitor.specs.Timer.{ticked}
 
--- a row by its own computation, or by the law of the stamps' places
+-- the record that settings with enable 1 leave of a new monitor
+abbrev enabled-record : List ℕ → Monitor
+enabled-record thresholds =
+    record {
+      settings =
+          record {
+            «timer_threshold» = 1;
+            mode = 0;
+            trigger = 0;
+            thresholds = thresholds;
+            «minimum_window» = 0;
+            enabled = true;
+          };
+      timer = 0;
+      host = false;
+      partial = 0;
+      clock = 0;
+      loaded = noLoads;
+      debug = noDebugLog;
+      «static_window» = emptyWindow;
+      «active_window» = emptyWindow;
+    }
+
+-- the settings' bytes are computed here once for each table of thresholds, and not in each row
+usual-record : enabledWith 1 usual ≡ enabled-record usual
+unfolding enabledWith newMonitor afterSettings settingsRefusal fieldRefusal anySet lowFirst decoded encoded
+usual-record = refl
+
+equal-record : enabledWith 1 (1 ∷ 1 ∷ 3 ∷ 9 ∷ []) ≡ enabled-record (1 ∷ 1 ∷ 3 ∷ 9 ∷ [])
+unfolding enabledWith newMonitor afterSettings settingsRefusal fieldRefusal anySet lowFirst decoded encoded
+equal-record = refl
+
+-- a row of the usual thresholds, from its computation
+by-usual : {A : Type 0} (f : Monitor → A) (r : A) → f (enabled-record usual) ≡ r → f (enabledWith 1 usual) ≡ r
+by-usual f r row = ap f usual-record ∙ row
+
+counted-row :
+    (us : ℕ) (b : Option ℕ) →
+    completionReply (enabled-record usual) (read us) ≡ readReply b →
+    Holds (bucket usual us b)
+counted-row us b row = by-usual (λ m. completionReply m (read us)) (readReply b) row
+
+measured-row :
+    (us b ms : ℕ) →
+    getD (afterCompletion (enabled-record usual) (read us) .«active_window» .latencies) (3 * b) 0 ≡ ms →
+    Holds (measures us b ms)
+measured-row us b ms row =
+    by-usual (λ m. getD (afterCompletion m (read us) .«active_window» .latencies) (3 * b) 0) ms row
+
+equal-row : Holds (bucket (1 ∷ 1 ∷ 3 ∷ 9 ∷ []) 10000 (some 1))
+unfolding completionReply counterOf bucketOf highestBelow kindOf millisecondsOf loads triggers emptyWindow noDebugLog
+equal-row = ap (λ m. completionReply m (read 10000)) equal-record
+
 pub edges-hold : EdgesHold
-unfolding completionReply afterCompletion counterOf bucketOf highestBelow kindOf millisecondsOf loads triggers countedIn elapsedReplies elapsedReply afterElapsed elapsedRefusal ticked emptyWindow noDebugLog noSettings newMonitor afterSettings settingsRefusal fieldRefusal anySet lowFirst decoded encoded
-edges-hold = (refl, (refl, (refl, (refl, (refl, (refl, (refl, (refl, (refl, (refl, (λ p. stamp-at p 9 (omega arith), (λ p. stamp-at p 2 (omega arith), tt))))))))))))
+unfolding completionReply afterCompletion counterOf bucketOf highestBelow kindOf millisecondsOf loads triggers countedIn elapsedReplies elapsedReply afterElapsed elapsedRefusal ticked emptyWindow noDebugLog
+edges-hold = (
+  counted-row 4999 none refl,
+  (
+    counted-row 5000 (some 0) refl,
+    (
+      counted-row 9999 (some 0) refl,
+      (
+        counted-row 10000 (some 1) refl,
+        (
+          counted-row 49999 (some 2) refl,
+          (
+            counted-row 50000 (some 3) refl,
+            (
+              measured-row 4294967295 3 65535 refl,
+              (
+                measured-row 7999 0 7 refl,
+                (
+                  equal-row,
+                  (
+                    by-usual (λ m. elapsedReplies m (299999 ∷ 1 ∷ [])) _ refl,
+                    (
+                      λ p. stamp-at p 9 (omega arith),
+                      (
+                        λ p. stamp-at p 2 (omega arith),
+                        tt,
+                      ),
+                    ),
+                  ),
+                ),
+              ),
+            ),
+          ),
+        ),
+      ),
+    ),
+  ),
+)

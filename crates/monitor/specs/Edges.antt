@@ -15,7 +15,7 @@ use Rattle.monitor.specs.Settings.{encoded}
 use Rattle.monitor.specs.Record.{newMonitor, afterSettings, afterCompletion, completionReply, afterElapsed, elapsedReply}
 
 -- a new monitor after settings with enable 1: this timer threshold and these thresholds A to D, all else zero
-abbrev pub enabledWith : ℕ → List ℕ → Monitor
+unfoldable pub enabledWith : ℕ → List ℕ → Monitor
 enabledWith threshold thresholds =
     afterSettings newMonitor
     (encoded

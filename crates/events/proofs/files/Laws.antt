@@ -2,10 +2,11 @@
 use mathlib.Core.Path.{_≡_, refl, sym, ap, _∙_}
 use mathlib.Core.List.{List, []}
 use mathlib.Core.Option.{Option, none, some}
-use Prim.Native.Nat.{ℕ, zero, suc, _+_, _-_, _*_, _<_, _≤_}
+use Prim.Native.Nat.{ℕ, zero, suc, _+_, _-_, _*_, _%_, _<_, _≤_}
 use native.Mathlib.Nat.{sub-zero, add-zero, add-suc}
 use native.Mathlib.Numerals.{add-one}
 use native.Mathlib.Omega.{arith}
+use borrow.Author.Tests.{eq-eqb, ne-eqb}
 use lib.ListN.{length, take, drop, length-take, length-drop}
 use lib.Seq.{take-all, drop-drop}
 use Rattle.monitor.specs.declared.record.Monitor.{Monitor}
@@ -14,7 +15,8 @@ use Rattle.monitor.specs.History.{Call, settings, completion, elapsed, clock, p
 use Rattle.monitor.specs.History.{after, playFrom, refusalOf, found, andThen, orElse}
 use Rattle.monitor.specs.Record.{afterSettings, afterElapsed, afterClock}
 use Rattle.events.proofs.records.Laws.{Made}
-use Rattle.events.specs.Records.{callOf, recordRefusal, recordReply, afterRecord, recordAt, wholeRecords}
+use Rattle.events.specs.Records.{endRefusal, callOf, recordRefusal, recordReply, afterRecord, recordAt}
+use Rattle.events.specs.Records.{wholeRecords}
 use Rattle.events.specs.Records.{callsBefore, historyOf}
 use Rattle.events.specs.Records.{Refusal, refusalAt, firstRefusedFrom, firstRefused, acceptedRecords}
 
@@ -268,3 +270,12 @@ module _ (m : Monitor) (s : List ℕ) (monitor next : Monitor) (i : ℕ) where
       let all : acceptedRecords t ≡ wholeRecords t = rw (← h) refl in
       let sum : i + wholeRecords t ≡ wholeRecords s = omega (arith, length-drop (16 * i) s) in
       (rw (all, played) at en) ∙ (rw sum at (composed m s i (wholeRecords t)))
+
+-- the end of a file of n bytes
+pub whole : (n : ℕ) → n % 16 ≡ 0 → done ≡ unlessRefused (endRefusal n) done
+unfolding endRefusal
+whole n e = rw (eq-eqb (n % 16) 0 e)
+
+pub some-left : (n : ℕ) → (n % 16 ≡ 0 → ⊥) → refused 12 ≡ unlessRefused (endRefusal n) done
+unfolding endRefusal
+some-left n e = rw (ne-eqb (n % 16) 0 e)

@@ -1,11 +1,12 @@
 -- Laws of the lines of the text.
-use mathlib.Core.Path.{_≡_, refl, sym, _∙_, ap}
+use mathlib.Core.Path.{_≡_, refl, _∙_, ap}
 use Prim.Native.Nat.{ℕ, zero, suc, _+_, _*_, _-_, _<_, _≤_, _/_, _%_}
 use mathlib.Core.Bool.{true, false}
 use mathlib.Core.List.{List, [], _∷_, _++_}
 use native.Mathlib.Omega.{arith}
 use native.Mathlib.Numerals.{add-one}
-use lib.ListN.{length, set, take, drop, getD, replicate, length-append, length-take, length-drop, length-replicate, drop-of-length-le}
+use lib.ListN.{length, set, take, drop, getD, replicate, length-append, length-take, length-drop, length-replicate}
+use lib.ListN.{drop-of-length-le}
 use lib.Seq.{sets, sets-eq, length-sets, drop-cons}
 use Rattle.endian.specs.Bytes.{anySet}
 use Rattle.endian.proofs.Runs.{run-more}
@@ -13,7 +14,11 @@ use Rattle.events.specs.declared.text.Text.{Text}
 use Rattle.events.specs.Text.{hexDigit, hexOffset, hexBytes, line, shownLine, lineAt, lines, asText, Stored}
 
 -- the offset's five stores
-pub offset-run : (s : List ℕ) (at offset a b c : ℕ) → a ≡ hexDigit (offset / 256 % 16) → b ≡ hexDigit (offset / 16 % 16) → c ≡ hexDigit (offset % 16)
+pub offset-run :
+    (s : List ℕ) (at offset a b c : ℕ) →
+    a ≡ hexDigit (offset / 256 % 16) →
+    b ≡ hexDigit (offset / 16 % 16) →
+    c ≡ hexDigit (offset % 16)
     → set (set (set (set (set s at a) (at + 1) b) (at + 2) c) (at + 3) 58) (at + 4) 32 ≡ sets s at (hexOffset offset)
 unfolding hexOffset
 offset-run s at offset a b c p q r =
@@ -29,7 +34,11 @@ bytes-start s row at =
     let q : at + 2 * 0 ≡ at = omega arith in
     rw q
 
-pub bytes-step : (s row goal : List ℕ) (at i a b : ℕ) → i < length row → a ≡ hexDigit (getD row i 0 / 16) → b ≡ hexDigit (getD row i 0 % 16)
+pub bytes-step :
+    (s row goal : List ℕ) (at i a b : ℕ) →
+    i < length row →
+    a ≡ hexDigit (getD row i 0 / 16) →
+    b ≡ hexDigit (getD row i 0 % 16)
     → sets s (at + 2 * i) (hexBytes (drop i row)) ≡ goal
     → sets (set (set s (at + 2 * i) a) (at + 2 * i + 1) b) (at + 2 * (i + 1)) (hexBytes (drop (i + 1) row)) ≡ goal
 unfolding hexBytes
@@ -38,7 +47,11 @@ bytes-step s row goal at i a b h p q e =
     let e₂ : at + 2 * (i + 1) ≡ suc (suc (at + 2 * i)) = omega arith in
     rw (e₂, e₁, p, q, add-one i) (rw (drop-cons row i 0 h) at e)
 
-pub bytes-end : (s row goal : List ℕ) (at i : ℕ) → length row ≤ i → sets s (at + 2 * i) (hexBytes (drop i row)) ≡ goal → s ≡ goal
+pub bytes-end :
+    (s row goal : List ℕ) (at i : ℕ) →
+    length row ≤ i →
+    sets s (at + 2 * i) (hexBytes (drop i row)) ≡ goal →
+    s ≡ goal
 unfolding hexBytes
 bytes-end s row goal at i h e = rw (drop-of-length-le row h) at e
 
@@ -52,11 +65,18 @@ unfolding hexOffset
 length-offset offset = refl
 
 -- storing keeps the room
-pub same-room : {t before after : List ℕ} {at room took : ℕ} → Stored t at room before after took → length after ≡ length before
+pub same-room :
+    {t before after : List ℕ} {at room took : ℕ} →
+    Stored t at room before after took →
+    length after ≡ length before
 same-room {t} {before} {after} {at} s = ap length (s .content) ∙ length-sets before at t
 
 -- a line is stored, or skipped
-pub line-stored : (offset : ℕ) (row s s₁ s₂ : List ℕ) (at : ℕ) → length row ≡ 16 → anySet row ≡ true → s₁ ≡ sets s at (hexOffset offset)
+pub line-stored :
+    (offset : ℕ) (row s s₁ s₂ : List ℕ) (at : ℕ) →
+    length row ≡ 16 →
+    anySet row ≡ true →
+    s₁ ≡ sets s at (hexOffset offset)
     → s₂ ≡ sets s₁ (at + 5) (hexBytes row) → Stored (shownLine offset row) at 38 s (set s₂ (at + 37) 10) 38
 unfolding shownLine line
 line-stored offset row s s₁ s₂ at n h e₁ e₂ =
@@ -69,7 +89,10 @@ line-stored offset row s s₁ s₂ at n h e₁ e₂ =
       within = omega arith;
     }
 
-pub line-skipped : (offset : ℕ) (row s : List ℕ) (at : ℕ) → anySet row ≡ false → Stored (shownLine offset row) at 38 s s 0
+pub line-skipped :
+    (offset : ℕ) (row s : List ℕ) (at : ℕ) →
+    anySet row ≡ false →
+    Stored (shownLine offset row) at 38 s s 0
 unfolding shownLine
 line-skipped offset row s at h = record { content = rw h; exact = rw h; within = omega arith }
 
@@ -79,16 +102,24 @@ row-eq page offset =
     let e : offset + 16 - offset ≡ 16 = omega arith in
     rw e
 
-pub row-length : (page : List ℕ) (offset : ℕ) → offset + 16 ≤ length page → length (take (offset + 16 - offset) (drop offset page)) ≡ 16
+pub row-length :
+    (page : List ℕ) (offset : ℕ) →
+    offset + 16 ≤ length page →
+    length (take (offset + 16 - offset) (drop offset page)) ≡ 16
 row-length page offset h = rw row-eq (simp (length-take, length-drop) (omega arith))
 
-pub line-at : (page before after : List ℕ) (offset at took : ℕ) → Stored (shownLine offset (take (offset + 16 - offset) (drop offset page))) at 38 before after took
+pub line-at :
+    (page before after : List ℕ) (offset at took : ℕ) →
+    Stored (shownLine offset (take (offset + 16 - offset) (drop offset page))) at 38 before after took
     → Stored (lineAt page offset) at 38 before after took
 unfolding lineAt
 line-at page before after offset at took s = rw (row-eq page offset) at s
 
 -- one line more
-pub lines-step : (page out₀ out next : List ℕ) (n at r : ℕ) → Stored (lines page n) 0 (38 * n) out₀ out at → Stored (lineAt page (16 * n)) at 38 out next r
+pub lines-step :
+    (page out₀ out next : List ℕ) (n at r : ℕ) →
+    Stored (lines page n) 0 (38 * n) out₀ out at →
+    Stored (lineAt page (16 * n)) at 38 out next r
     → Stored (lines page (n + 1)) 0 (38 * (n + 1)) out₀ next (at + r)
 unfolding lines
 lines-step page out₀ out next n at r s t =

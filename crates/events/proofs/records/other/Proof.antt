@@ -4,7 +4,8 @@ use native.Mathlib.Omega.{arith}
 use Rattle.monitor.specs.History.{elapsed, powerUp}
 use Rattle.monitor.specs.Record.{settingsReply, clockReply}
 use Rattle.events.specs.Records.{callOfKind}
-use Rattle.events.proofs.records.Laws.{fits, stands-for, stands-for-none, known-call, no-call, elapsed-call, clock-call, unknown-kind}
+use Rattle.events.proofs.records.Laws.{fits, stands-for, stands-for-none, known-call, no-call, elapsed-call}
+use Rattle.events.proofs.records.Laws.{clock-call, unknown-kind}
 use borrow.Author.Needs.{needs}
 use Rattle.events.proofs.records.other.Statement.{statement}
 use Rattle.events.proofs.records.other.Tie as tie
