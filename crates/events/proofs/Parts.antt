@@ -12,7 +12,10 @@ use Rattle.events.proofs.files.Laws.{composed}
 -- the records of a first part are the whole's
 same-record : (s t : List ℕ) (i : ℕ) → 16 * i + 16 ≤ length s → recordAt (s ++ t) i ≡ recordAt s i
 same-record s t i h =
-    rw (drop-append-le (16 * i) s t (omega arith), take-append-le 16 (drop (16 * i) s) t (omega (arith, length-drop (16 * i) s)))
+    rw (
+      drop-append-le (16 * i) s t (omega arith),
+      take-append-le 16 (drop (16 * i) s) t (omega (arith, length-drop (16 * i) s)),
+    )
 
 same-calls : (s t : List ℕ) (n : ℕ) → n ≤ wholeRecords s → callsBefore (s ++ t) n ≡ callsBefore s n
 unfolding callsBefore

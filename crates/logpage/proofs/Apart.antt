@@ -111,7 +111,9 @@ buckets-apart c d x y zero e n h = absurd (omega arith)
 buckets-apart c d x y (suc m) e n h =
     let bytes : List ℕ → List ℕ = λ l. bucketBytes (getD l (3 * m + 2) 0) (getD l (3 * m + 1) 0) (getD l (3 * m) 0) in
     let values : List ℕ → List ℕ = λ l. 0 ∷ getD l (3 * m + 2) 0 ∷ getD l (3 * m + 1) 0 ∷ getD l (3 * m) 0 ∷ [] in
-    let r = append-apart (buckets c m) (buckets d m) (bytes c) (bytes d) (length-buckets c m ∙ sym (length-buckets d m)) e in
+    let r =
+    append-apart (buckets c m) (buckets d m) (bytes c) (bytes d) (length-buckets c m ∙ sym (length-buckets d m)) e
+    in
     let v =
     fields-apart
     (bucket-fit _ _ _ (x (3 * m + 2)) (x (3 * m + 1)) (x (3 * m)))
@@ -135,7 +137,8 @@ downward-apart width c d m m′ x y e =
     (λ n l.
     let h : n < 12 = omega arith in
     low-apart width (getD c n 0) (getD d n 0) (x n) (y n)
-    (sym (downward-at width c 12 n h) ∙ ap (λ (bytes : List ℕ). take width (drop (width * (11 - n)) bytes)) e ∙ downward-at width d 12 n h))
+    (sym (downward-at width c 12 n h) ∙ ap (λ (bytes : List ℕ). take width (drop (width * (11 - n)) bytes)) e ∙
+    downward-at width d 12 n h))
 
 units-fit : (w : Window) → FitsWindow w → bits (w .units) < 65536
 units-fit w x = omega (arith, bits-fit (w .units) 0 (omega (arith, x .twelve-units)))
@@ -189,7 +192,9 @@ head-apart s t i j x y h k r e =
     fields-apart (head-fit s i x h) (head-fit t j y k)
     (head-fields s i ∙ e ∙ sym (head-fields t j))
     in
-    let one : (n : ℕ) → getD (headValues s i) n 0 ≡ getD (headValues t j) n 0 = λ n. ap (λ (l : List ℕ). getD l n 0) v in
+    let one : (n : ℕ) → getD (headValues s i) n 0 ≡ getD (headValues t j) n 0 =
+    λ n. ap (λ (l : List ℕ). getD l n 0) v
+    in
     let four =
     four-values (s .thresholds) (x .four)
     ∙ ap (λ (l : List ℕ). take 4 (drop 4 l)) v
@@ -210,7 +215,8 @@ head-apart s t i j x y h k r e =
 
 tail-fit : (trigger : ℕ) (d : DebugLog) → trigger < 65536 → FitsDebug d → Fit tailWidths (tailValues trigger d)
 tail-fit trigger d h x =
-    h ▸ x .latency ▸ x .stamp ▸ lit< tt ▸ x .source ▸ flag-fits (d .units) ▸ lit< tt ▸ lit< tt ▸ lit< tt ▸ lit< tt ▸ none
+    h ▸ x .latency ▸ x .stamp ▸ lit< tt ▸ x .source ▸ flag-fits (d .units) ▸ lit< tt ▸ lit< tt ▸ lit< tt ▸ lit< tt ▸
+    none
 
 tail-apart :
     (i j : ℕ) (c d : DebugLog) →
@@ -225,7 +231,9 @@ tail-apart i j c d h k x y e =
     fields-apart (tail-fit i c h x) (tail-fit j d k y)
     (tail-fields i c ∙ e ∙ sym (tail-fields j d))
     in
-    let one : (n : ℕ) → getD (tailValues i c) n 0 ≡ getD (tailValues j d) n 0 = λ n. ap (λ (l : List ℕ). getD l n 0) v in
+    let one : (n : ℕ) → getD (tailValues i c) n 0 ≡ getD (tailValues j d) n 0 =
+    λ n. ap (λ (l : List ℕ). getD l n 0) v
+    in
     let b = flag-apart (c .units) (d .units) (one 5) in
     (one 0, λ n. record { stamp = one 2 n; latency = one 1 n; source = one 4 n; units = b n })
 

@@ -13,7 +13,8 @@ use Rattle.logpage.specs.Fields.{emptyWindow, noDebugLog}
 use Rattle.monitor.specs.declared.record.Monitor.{Monitor}
 use Rattle.monitor.specs.Commands.{kindOf, highestBelow, bucketOf, counterOf, millisecondsOf}
 use Rattle.monitor.specs.Counting.{loads, countedIn, triggers}
-use Rattle.monitor.specs.Edges.{enabledWith, read, usual, elapsedReplies, bucket, measures, readReply, Holds, EdgesHold}
+use Rattle.monitor.specs.Edges.{enabledWith, read, usual, elapsedReplies, bucket, measures, readReply, Holds}
+use Rattle.monitor.specs.Edges.{EdgesHold}
 use Rattle.monitor.specs.Record.{noLoads, newMonitor, afterSettings, afterCompletion, completionReply}
 use Rattle.monitor.specs.Record.{afterElapsed, elapsedReply}
 use Rattle.monitor.specs.Refusals.{settingsRefusal, fieldRefusal, elapsedRefusal}

@@ -8,7 +8,8 @@ use lib.Dec.{ltb}
 use lib.ListN.{length, set, replicate}
 use Rattle.logpage.specs.Page.{pageBytes}
 use Rattle.monitor.specs.Facts.{inForce, clockAt, hostAt, timerThreshold, enabledTime, windowAt, timerAt}
-use Rattle.monitor.specs.Facts.{Counted, active, static, countOf, lastLoad, stampOf, latencyOf, unitsOf, each, windowFrom}
+use Rattle.monitor.specs.Facts.{Counted, active, static, countOf, lastLoad, stampOf, latencyOf, unitsOf, each}
+use Rattle.monitor.specs.Facts.{windowFrom}
 use Rattle.monitor.specs.Facts.{debugAt, factsOf}
 use Rattle.monitor.specs.History.{elapsed, History, Past, OfBytes, settingsIn, found, latest, pastOf, play}
 use Rattle.monitor.specs.Answers.{ended, unlessRefused}
@@ -16,6 +17,7 @@ use Rattle.monitor.specs.Record.{untouchedIf, elapsedReply}
 use Rattle.monitor.specs.declared.record.Monitor.{Monitor}
 use Rattle.monitor.specs.Refusals.{elapsedRefusal, pageRefusal, settingsBackRefusal}
 use Rattle.monitor.specs.Report.{pageOf, settingsOf}
+use Rattle.monitor.specs.Settings.{encoded}
 
 -- the time in the running window when a stamp was loaded: the record keeps it for the minimum window
 abbrev pub loadedOf : Option Counted → ℕ
@@ -52,7 +54,11 @@ WindowEnds =
 abbrev pub PageShowsFacts : Type 0
 PageShowsFacts = (h : History) → pageOf (play h) ≡ pageBytes (factsOf (pastOf h))
 
--- Demand 2, the settings: those last accepted come back the same, the discard byte as zero; else all bytes are zero.
+-- Demand 2, the settings given back: they are the ones that the settings table makes of those in force.
+abbrev pub SettingsShowFacts : Type 0
+SettingsShowFacts = (h : History) → settingsOf (play h) ≡ encoded (inForce (pastOf h))
+
+-- Those last accepted come back the same, the discard byte as zero; else all bytes are zero.
 unfoldable pub lastAccepted : History → List ℕ
 lastAccepted h = found (replicate 4096 0) (λ s. set s 11 0) (latest settingsIn (pastOf h))
 

@@ -12,7 +12,8 @@ use Rattle.monitor.specs.declared.commands.Completion.{Completion}
 use Rattle.monitor.specs.declared.record.Monitor.{Monitor}
 use Rattle.monitor.specs.Answers.{Reply, notCounted, counted, ended}
 use Rattle.monitor.specs.Settings.{encoded}
-use Rattle.monitor.specs.Record.{newMonitor, afterSettings, afterCompletion, completionReply, afterElapsed, elapsedReply}
+use Rattle.monitor.specs.Record.{newMonitor, afterSettings, afterCompletion, completionReply, afterElapsed}
+use Rattle.monitor.specs.Record.{elapsedReply}
 
 -- a new monitor after settings with enable 1: this timer threshold and these thresholds A to D, all else zero
 unfoldable pub enabledWith : ℕ → List ℕ → Monitor

@@ -1,8 +1,8 @@
 -- The facts of a history, each asked at a place: of what was done before it.
-use mathlib.Core.Bool.{Bool, true, false, cond, _&&_}
+use mathlib.Core.Bool.{Bool, false, cond, _&&_}
 use mathlib.Core.List.{List, [], _∷_}
 use mathlib.Core.Option.{Option, none, some}
-use Prim.Native.Nat.{ℕ, zero, suc, _+_, _-_, _*_, _/_, _%_, min}
+use Prim.Native.Nat.{ℕ, zero, suc, _+_, _-_, _*_, _/_, min}
 use lib.Dec.{eqb, leb, ltb}
 use lib.ListN.{length}
 use Rattle.logpage.specs.Fields.{unset, noSettings, noDebugLog}
@@ -13,7 +13,8 @@ use Rattle.logpage.specs.declared.Window.{Window}
 use Rattle.monitor.specs.declared.commands.Completion.{Completion}
 use Rattle.monitor.specs.Commands.{counterOf, millisecondsOf}
 use Rattle.monitor.specs.Counting.{bit, debugLog}
-use Rattle.monitor.specs.History.{Effect, Past, ClockSetting, settingsIn, completionIn, elapsedIn, clockIn, found, latest, since, onlyIf}
+use Rattle.monitor.specs.History.{Effect, Past, ClockSetting, settingsIn, completionIn, elapsedIn, clockIn, found}
+use Rattle.monitor.specs.History.{latest, since, onlyIf}
 use Rattle.monitor.specs.Settings.{decoded, discard}
 
 -- In force: the settings last accepted before a place, else all zero.
@@ -79,7 +80,8 @@ pub record Counted : Type 0 where
 
 abbrev pub countedAt : Effect → Past → Option Counted
 countedAt e past =
-    found none (λ c. found none (λ n. some (record { counter = n; command = c; before = past })) (counterOf (inForce past) c))
+    found none
+    (λ c. found none (λ n. some (record { counter = n; command = c; before = past })) (counterOf (inForce past) c))
     (completionIn e)
 
 -- the completions counted since those settings, the newest first: at each of their places those settings are the last

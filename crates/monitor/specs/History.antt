@@ -5,8 +5,10 @@ use mathlib.Core.Option.{Option, none, some}
 use Prim.Native.Nat.{ℕ, _<_}
 use Rattle.monitor.specs.declared.commands.Completion.{Completion}
 use Rattle.monitor.specs.declared.record.Monitor.{Monitor}
-use Rattle.monitor.specs.Record.{newMonitor, afterSettings, afterCompletion, afterElapsed, afterClock, afterPowerUp}
-use Rattle.monitor.specs.Refusals.{settingsRefusal, elapsedRefusal, clockRefusal, pageRefusal, settingsBackRefusal}
+use Rattle.monitor.specs.Record.{newMonitor, afterSettings, afterCompletion, afterElapsed, afterClock}
+use Rattle.monitor.specs.Record.{afterPowerUp}
+use Rattle.monitor.specs.Refusals.{settingsRefusal, elapsedRefusal, clockRefusal, pageRefusal}
+use Rattle.monitor.specs.Refusals.{settingsBackRefusal}
 
 -- Settings stand in a history as their bytes, page and settings back as a buffer length.
 pub data Call : Type 0 where

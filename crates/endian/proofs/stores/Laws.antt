@@ -59,7 +59,9 @@ module _ (widths values : List ℕ) (i : ℕ) where
       let run : List ℕ = lowFirst (getD widths i 0) (getD values i 0) in
       let rest : List ℕ = fields (drop (i + 1) widths) (drop (i + 1) values) in
       let w : at + getD widths i 0 ≡ at + length run = rw length-low in
-      let f : fields (drop i widths) (drop i values) ≡ run ++ rest = rw (add-one, drop-cons widths i 0 h, drop-cons values i 0 k) in
+      let f : fields (drop i widths) (drop i values) ≡ run ++ rest =
+      rw (add-one, drop-cons widths i 0 h, drop-cons values i 0 k)
+      in
       run-left cur next goal run rest at _ w (rw f at e) e′
 
   pub fields-end :

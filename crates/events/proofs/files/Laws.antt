@@ -130,7 +130,9 @@ module _ (m : Monitor) (s : List ℕ) where
         let refusal : recordRefusal r ≡ some n = refused-by (recordRefusal r) n ed in
         let here : recordRefusal (recordAt s i) ≡ some n = rw er at refusal in
         let more : wholeRecords s - i ≡ suc (wholeRecords s - suc i) = omega arith in
-        let first : firstRefused s ≡ refusalAt i (some n) = sym (rw more at rest) ∙ stop s i (wholeRecords s - suc i) n here in
+        let first : firstRefused s ≡ refusalAt i (some n) =
+        sym (rw more at rest) ∙ stop s i (wholeRecords s - suc i) n here
+        in
         (rw first (en ∙ (untouched monitor r n refusal ∙ played)), sym first)
 
   -- the end
@@ -227,7 +229,8 @@ unfolding callsBefore playFrom
 composed m s i zero = rw (add-zero i)
 composed m s i (suc k) =
     rw (add-suc i k, rest-record s i k)
-    (then-same _ _ (callsBefore (drop (16 * i) s) k) (callsBefore s (i + k)) (callOf (recordAt s (i + k))) (composed m s i k))
+    (then-same _ _ (callsBefore (drop (16 * i) s) k) (callsBefore s (i + k)) (callOf (recordAt s (i + k)))
+    (composed m s i k))
 
 skip :
     (m : Monitor) (s : List ℕ) (j n : ℕ) →
@@ -235,7 +238,8 @@ skip :
     playFrom m (callsBefore s (suc j)) ≡ playFrom m (callsBefore s j)
 unfolding callsBefore afterRecord
 skip m s j n e =
-    sym (then-one m (callsBefore s j) (callOf (recordAt s j))) ∙ untouched (playFrom m (callsBefore s j)) (recordAt s j) n e
+    sym (then-one m (callsBefore s j) (callOf (recordAt s j))) ∙
+    untouched (playFrom m (callsBefore s j)) (recordAt s j) n e
 
 -- where a replay is, before record i
 abbrev pub Replayed : Monitor → List ℕ → Monitor → ℕ → Type 0
@@ -252,11 +256,14 @@ module _ (m : Monitor) (s : List ℕ) (monitor next : Monitor) (i : ℕ) where
   skipped p (le, played) (en, h) =
       let t = drop (16 * i) s in
       let f = found-at t (wholeRecords t) 0 p h in
-      let here : recordRefusal (recordAt s (i + p .index)) ≡ some (p .number) = rw (rest-record s i (p .index)) at (f .1) in
+      let here : recordRefusal (recordAt s (i + p .index)) ≡ some (p .number) =
+      rw (rest-record s i (p .index)) at (f .1)
+      in
       let stop-at : acceptedRecords t ≡ p .index = rw (← h) refl in (
         omega (arith, f .0, length-drop (16 * i) s),
         rw (add-one (i + p .index))
-            ((rw (stop-at, played) at en) ∙ (composed m s i (p .index) ∙ sym (skip m s (i + p .index) (p .number) here))),
+            ((rw (stop-at, played) at en) ∙ (composed m s i (p .index) ∙
+            sym (skip m s (i + p .index) (p .number) here))),
       )
 
   -- to the end

@@ -188,7 +188,13 @@ module _ (r : List ℕ) (sixteen : length r ≡ 16) where
       callOf r ≡ none
   unfolding callOf callOfKind isCompletion
   unknown-kind h n1 n3 n4 n5 =
-      rw (eq-eqb (length r) 16 sixteen, ne-eqb (kindOf r) 1 n1, ne-eqb (kindOf r) 3 n3, ne-eqb (kindOf r) 4 n4, ne-eqb (kindOf r) 5 n5)
+      rw (
+        eq-eqb (length r) 16 sixteen,
+        ne-eqb (kindOf r) 1 n1,
+        ne-eqb (kindOf r) 3 n3,
+        ne-eqb (kindOf r) 4 n4,
+        ne-eqb (kindOf r) 5 n5,
+      )
       (by (eqb (kindOf r) 2) (anySet (unnamed 2 4 8 r)) (completion (completionOf r)) h)
     where
       by : (k u : Bool) (c : Call) → (k && not u) ≡ false → cond k (cond u none (some c)) none ≡ none

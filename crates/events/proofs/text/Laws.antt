@@ -81,10 +81,16 @@ pub line-stored :
 unfolding shownLine line
 line-stored offset row s s₁ s₂ at n h e₁ e₂ =
     let p₁ : at + 5 ≡ at + length (hexOffset offset) = rw (length-offset offset) in
-    let p₂ : at + 37 ≡ at + length (hexOffset offset ++ hexBytes row) = simp (length-append, length-offset, length-bytes, n) in
-    let e : s₂ ≡ sets s at (hexOffset offset ++ hexBytes row) = run-more s s₁ s₂ (hexOffset offset) (hexBytes row) at (at + 5) p₁ e₁ e₂ in
+    let p₂ : at + 37 ≡ at + length (hexOffset offset ++ hexBytes row) =
+    simp (length-append, length-offset, length-bytes, n)
+    in
+    let e : s₂ ≡ sets s at (hexOffset offset ++ hexBytes row) =
+    run-more s s₁ s₂ (hexOffset offset) (hexBytes row) at (at + 5) p₁ e₁ e₂
+    in
     record {
-      content = rw h (run-more s s₂ (set s₂ (at + 37) 10) (hexOffset offset ++ hexBytes row) (10 ∷ []) at (at + 37) p₂ e refl);
+      content =
+          rw h (run-more s s₂ (set s₂ (at + 37) 10) (hexOffset offset ++ hexBytes row) (10 ∷ []) at (at + 37) p₂ e
+          refl);
       exact = rw h (simp (length-append, length-offset, length-bytes, n));
       within = omega arith;
     }
@@ -125,7 +131,8 @@ unfolding lines
 lines-step page out₀ out next n at r s t =
     let q : at ≡ 0 + length (lines page n) = omega (arith, s .exact) in
     record {
-      content = rw add-one (run-more out₀ out next (lines page n) (lineAt page (16 * n)) 0 at q (s .content) (t .content));
+      content =
+          rw add-one (run-more out₀ out next (lines page n) (lineAt page (16 * n)) 0 at q (s .content) (t .content));
       exact = rw (add-one, length-append) (omega (arith, s .exact, t .exact));
       within = omega (arith, s .within, t .within);
     }
@@ -142,10 +149,17 @@ drop-replicate (suc n) (suc m) =
     rw e (drop-replicate n m)
 
 -- a text that is stored in a room of zeros
-pub as-text : (t bytes : List ℕ) (r : ℕ) → Stored t 0 1140 (replicate 1140 0) bytes r → _≡_ {A = Text} (record { bytes = bytes; length = r }) (asText t)
+pub as-text :
+    (t bytes : List ℕ) (r : ℕ) →
+    Stored t 0 1140 (replicate 1140 0) bytes r →
+    _≡_ {A = Text} (record { bytes = bytes; length = r }) (asText t)
 unfolding asText
 as-text t bytes r s =
-    let b : 0 + length t ≤ length (replicate {A = ℕ} 1140 0) = rw (length-replicate {A = ℕ} 1140 0) (omega (arith, s .exact, s .within)) in
+    let b : 0 + length t ≤ length (replicate {A = ℕ} 1140 0) =
+    rw (length-replicate {A = ℕ} 1140 0) (omega (arith, s .exact, s .within))
+    in
     let z : 0 + length t ≡ length t = omega arith in
-    let e : bytes ≡ t ++ replicate (1140 - length t) 0 = s .content ∙ sets-eq t (replicate 1140 0) 0 b ∙ rw (z, drop-replicate (length t) 1140) in
+    let e : bytes ≡ t ++ replicate (1140 - length t) 0 =
+    s .content ∙ sets-eq t (replicate 1140 0) 0 b ∙ rw (z, drop-replicate (length t) 1140)
+    in
     rw (e, s .exact)

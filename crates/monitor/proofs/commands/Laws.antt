@@ -37,7 +37,11 @@ module _ (thresholds : List ℕ) (us : ℕ) where
   down zero h = absurd (not-suc-le-zero h)
   down (suc n) h = rw (sub-one (suc n))
 
-  pub hit : (n : ℕ) → 0 < n → reaches us (getD thresholds (n - 1) 0) ≡ true → highestBelow thresholds us n ≡ some (n - 1)
+  pub hit :
+      (n : ℕ) →
+      0 < n →
+      reaches us (getD thresholds (n - 1) 0) ≡ true →
+      highestBelow thresholds us n ≡ some (n - 1)
   hit n p t = rw (down n p, t)
 
   pub miss :

@@ -22,7 +22,10 @@ counts counter true h = by (ltb counter 4294967295) refl
     by true e = omega (arith, ltb-true counter 4294967295 e)
     by false e = omega (arith, ltb-false counter 4294967295 e)
 
-pub counted-fits : (counter : ℕ) (here : Bool) → counter < 4294967296 → cond here (onceMore counter) counter < 4294967296
+pub counted-fits :
+    (counter : ℕ) (here : Bool) →
+    counter < 4294967296 →
+    cond here (onceMore counter) counter < 4294967296
 counted-fits counter true h = omega arith
 counted-fits counter false h = h
 

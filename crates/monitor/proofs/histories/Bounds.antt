@@ -1,7 +1,7 @@
 -- The facts of a history of bytes fit their fields of the page.
 use Prim.Native.Nat.{ℕ, zero, suc, _*_, _-_, _/_, _<_}
 use mathlib.Core.Path.{_≡_, refl}
-use mathlib.Core.Bool.{Bool, true, false, cond}
+use mathlib.Core.Bool.{Bool, true, false}
 use mathlib.Core.List.{List, [], _∷_}
 use mathlib.Core.Option.{Option, none, some}
 use native.Mathlib.Decide.{decLt}
@@ -15,9 +15,11 @@ use Rattle.monitor.specs.declared.commands.Completion.{Completion}
 use Rattle.monitor.specs.Commands.{counterOf, millisecondsOf}
 use Rattle.monitor.specs.Facts.{inForce, sum, enablingIn, enablingIn, timerThreshold, enabledTime, whileEnabled}
 use Rattle.monitor.specs.Facts.{windowAt, timerAt, Counted, countedAt, filter, countOf, lastLoad, stampOf}
-use Rattle.monitor.specs.Facts.{latencyOf, triggered, discardIn, orEarliest, earliest, logOf, debugAt, active, static}
+use Rattle.monitor.specs.Facts.{latencyOf, triggered, discardIn, orEarliest, earliest, logOf, debugAt, active}
+use Rattle.monitor.specs.Facts.{static}
 use Rattle.monitor.specs.Facts.{from, windowFrom, factsOf}
-use Rattle.monitor.specs.History.{asked, Call, settings, completion, elapsed, clock, powerUp, page, settingsBack, unlessFound, onlyIf}
+use Rattle.monitor.specs.History.{asked, Call, settings, completion, elapsed, clock, powerUp, page, settingsBack}
+use Rattle.monitor.specs.History.{unlessFound, onlyIf}
 use Rattle.monitor.specs.History.{History, Bytes, OfBytes, Effect, configured, completed, passed}
 use Rattle.monitor.specs.History.{clockSet, poweredUp, nothing, ifAccepted, effectOf, Past, pastOf, settingsIn}
 use Rattle.monitor.specs.History.{completionIn, found, orElse, latest, andThen, since}
@@ -74,7 +76,9 @@ settings-of-bytes s b =
       mode = omega (arith, byte-at s b 6, byte-at s b 7);
       trigger = omega (arith, byte-at s b 9, byte-at s b 10);
       four = refl;
-      thresholds = byte-at (getD s 2 0 ∷ getD s 3 0 ∷ getD s 4 0 ∷ getD s 5 0 ∷ []) (byte-at s b 2, (byte-at s b 3, (byte-at s b 4, (byte-at s b 5, tt))));
+      thresholds =
+          byte-at (getD s 2 0 ∷ getD s 3 0 ∷ getD s 4 0 ∷ getD s 5 0 ∷ [])
+          (byte-at s b 2, (byte-at s b 3, (byte-at s b 4, (byte-at s b 5, tt))));
       minimum = byte-at s b 8;
     }
 
@@ -212,11 +216,16 @@ OfTwelve x = x .counter < 12
 few : (e : Effect) (past : Past) → Some OfTwelve (countedAt e past)
 few e past = by (completionIn e)
   where
-    named : (c : Completion) (o : Option ℕ) → counterOf (inForce past) c ≡ o → Some OfTwelve (found none (λ n. some (record { counter = n; command = c; before = past })) o)
+    named :
+        (c : Completion) (o : Option ℕ) →
+        counterOf (inForce past) c ≡ o →
+        Some OfTwelve (found none (λ n. some (record { counter = n; command = c; before = past })) o)
     named c none q = tt
     named c (some n) q = counter-below (inForce past) c n q
 
-    by : (o : Option Completion) → Some OfTwelve (found none (λ c. found none (λ n. some (record { counter = n; command = c; before = past })) (counterOf (inForce past) c)) o)
+    by :
+        (o : Option Completion) →
+        Some OfTwelve (found none (λ c. found none (λ n. some (record { counter = n; command = c; before = past })) (counterOf (inForce past) c)) o)
     by none = tt
     by (some c) = named c (counterOf (inForce past) c) refl
 

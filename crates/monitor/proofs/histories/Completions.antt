@@ -71,10 +71,13 @@ module _ (past : Past) (c : Completion) (n : ℕ) where
     with-it = each (λ k. f (joined k))
 
     pub stored : (v : A) → v ≡ f (here-counted ∷ mine) → set before-it n v ≡ with-it
-    stored v e = rw (from-set 0 12 (λ k. f (active past k)) n v, zero-add n) (from-same 0 12 _ _ (λ k l h. by k (eqb k n) refl))
+    stored v e =
+        rw (from-set 0 12 (λ k. f (active past k)) n v, zero-add n) (from-same 0 12 _ _ (λ k l h. by k (eqb k n) refl))
       where
         by : (k : ℕ) (b : Bool) → eqb k n ≡ b → cond b v (f (active past k)) ≡ f (joined k)
-        by k true q = let same : k ≡ n = eqb-true k n q in e ∙ ap f (sym (joins k same ∙ ap (λ j. here-counted ∷ active past j) same))
+        by k true q =
+            let same : k ≡ n = eqb-true k n q in
+            e ∙ ap f (sym (joins k same ∙ ap (λ j. here-counted ∷ active past j) same))
         by k false q = ap f (sym (leaves k (eqb-false k n q)))
 
     pub kept : f mine ≡ f (here-counted ∷ mine) → before-it ≡ with-it
@@ -83,30 +86,36 @@ module _ (past : Past) (c : Completion) (n : ℕ) where
         by : (k : ℕ) (b : Bool) → eqb k n ≡ b → f (active past k) ≡ f (joined k)
         by k true q =
             let same : k ≡ n = eqb-true k n q in
-            ap (λ j. f (active past j)) same ∙ e ∙ ap f (sym (joins k same ∙ ap (λ j. here-counted ∷ active past j) same))
+            ap (λ j. f (active past j)) same ∙ e ∙
+            ap f (sym (joins k same ∙ ap (λ j. here-counted ∷ active past j) same))
         by k false q = ap f (sym (leaves k (eqb-false k n q)))
 
   -- what a load writes
   pub written :
       {A : Type 0} (d : A) (f : Counted → A) (b : Bool) →
       loading here-counted (lastLoad mine) ≡ b →
-      cond b (set (each (λ k. found d f (lastLoad (active past k)))) n (f here-counted)) (each (λ k. found d f (lastLoad (active past k)))) ≡
+      cond b (set (each (λ k. found d f (lastLoad (active past k)))) n (f here-counted))
+      (each (λ k. found d f (lastLoad (active past k)))) ≡
       each (λ k. found d f (lastLoad (joined k)))
   unfolding lastLoad
-  written d f true e = stored (λ xs. found d f (lastLoad xs)) (f here-counted) (rw (or-load here-counted (lastLoad mine), e))
+  written d f true e =
+      stored (λ xs. found d f (lastLoad xs)) (f here-counted) (rw (or-load here-counted (lastLoad mine), e))
   written d f false e = kept (λ xs. found d f (lastLoad xs)) (rw (or-load here-counted (lastLoad mine), e))
 
   pub counted-more :
       n < 12 →
-      set (each (λ k. countOf (active past k))) n (onceMore (getD (each (λ k. countOf (active past k))) n 0)) ≡ each (λ k. countOf (joined k))
+      set (each (λ k. countOf (active past k))) n (onceMore (getD (each (λ k. countOf (active past k))) n 0)) ≡
+      each (λ k. countOf (joined k))
   unfolding countOf
-  counted-more few = rw (from-at 0 12 (λ k. countOf (active past k)) n 0 few, zero-add n) (stored countOf _ (omega arith))
+  counted-more few =
+      rw (from-at 0 12 (λ k. countOf (active past k)) n 0 few, zero-add n) (stored countOf _ (omega arith))
 
   -- the rule and the fact agree on what is a load
   pub loads-is :
       n < 12 →
       All (Here past) mine →
-      loads (getD (each (λ k. stampOf (lastLoad (active past k)))) n 0) (getD (each (λ k. latencyOf (lastLoad (active past k)))) n 0)
+      loads (getD (each (λ k. stampOf (lastLoad (active past k)))) n 0)
+      (getD (each (λ k. latencyOf (lastLoad (active past k)))) n 0)
       (inWindow (timerAt past) (enabledTime past % 300000) - getD (each (λ k. loadedOf (lastLoad (active past k)))) n 0)
       (millisecondsOf c)
       (bit (inForce past .mode) n)
@@ -114,13 +123,17 @@ module _ (past : Past) (c : Completion) (n : ℕ) where
       loading here-counted (lastLoad mine)
   unfolding loads
   loads-is few all =
-      rw (from-at 0 12 (λ k. stampOf (lastLoad (active past k))) n 0 few, from-at 0 12 (λ k. latencyOf (lastLoad (active past k))) n 0 few, from-at 0 12 (λ k. loadedOf (lastLoad (active past k))) n 0 few, zero-add n, now-is past)
-      (by (lastLoad mine) (last-load-all (Here past) mine all))
+      let at-n : (g : ℕ → ℕ) → getD (each g) n 0 ≡ g (0 + n) = λ g. from-at 0 12 g n 0 few in
+      rw (at-n (λ k. stampOf (lastLoad (active past k))), at-n (λ k. latencyOf (lastLoad (active past k))))
+      (rw (at-n (λ k. loadedOf (lastLoad (active past k))), zero-add n, now-is past)
+      (by (lastLoad mine) (last-load-all (Here past) mine all)))
     where
       by :
           (o : Option Counted) →
           Some (Here past) o →
-          (eqb (stampOf o) unset || (bit (inForce past .mode) n && (lib.Dec.ltb (latencyOf o) (millisecondsOf c) && lib.Dec.leb (100 * inForce past .«minimum_window») (enabledTime past % span past - loadedOf o)))) ≡
+          loads (stampOf o) (latencyOf o) (enabledTime past % span past - loadedOf o) (millisecondsOf c)
+          (bit (inForce past .mode) n)
+          (inForce past .«minimum_window») ≡
           loading here-counted o
       by none k = refl
       by (some y) k = rw (ne-eqb (clockAt (y .before)) unset (λ e. omega (arith, clock-top (y .before))), ← k)
@@ -131,7 +144,8 @@ module _ (past : Past) (c : Completion) (n : ℕ) where
   left-out k = rw (ne-eqb (windowAt past + 1) (windowAt past) (λ e. omega arith))
 
   pub logs :
-      cond (triggers (bit (inForce past .trigger) n) (debugAt past .stamp)) (debugLog n (clockAt past) (millisecondsOf c) (hostAt past)) (debugAt past) ≡
+      cond (triggers (bit (inForce past .trigger) n) (debugAt past .stamp))
+      (debugLog n (clockAt past) (millisecondsOf c) (hostAt past)) (debugAt past) ≡
       found noDebugLog logOf (earliest (filter triggered (here-counted ∷ since discardIn countedAt past)))
   unfolding filter earliest debugAt triggers noDebugLog
   logs = by (bit (inForce past .trigger) n) (filter triggered (since discardIn countedAt past))
@@ -145,7 +159,8 @@ module _ (past : Past) (c : Completion) (n : ℕ) where
 
       by :
           (b : Bool) (xs : List Counted) →
-          cond (b && eqb (found noDebugLog logOf (earliest xs) .stamp) unset) (logOf here-counted) (found noDebugLog logOf (earliest xs)) ≡
+          cond (b && eqb (found noDebugLog logOf (earliest xs) .stamp) unset) (logOf here-counted)
+          (found noDebugLog logOf (earliest xs)) ≡
           found noDebugLog logOf (earliest (cond b (here-counted ∷ xs) xs))
       by true xs = held (earliest xs)
       by false xs = refl
@@ -161,7 +176,8 @@ found-at past c o = found none (λ n. some (record { counter = n; command = c; b
 abbrev after-it : Past → Completion → Option ℕ → Monitor
 after-it past c o =
     described (inForce past) (timerAt past) (hostAt past) (enabledTime past % 300000) (clockAt past)
-    (found noDebugLog logOf (earliest (filter triggered (andThen (found-at past c o) (since discardIn countedAt past)))))
+    (found noDebugLog logOf (earliest (filter triggered
+    (andThen (found-at past c o) (since discardIn countedAt past)))))
     (windowAt past)
     (andThen (found-at past c o) (sinceEnabled past))
 
@@ -190,7 +206,11 @@ counted-step past g c n e =
     let on = counter-enabled (inForce past) c n e in
     let all : All (Here past) (active past n) = all-active past g on n in
     let load = loads-is past c n few all in
-    sym (decide (recordOf past) c n (millisecondsOf c) (enabledTime past % span past) _ _ _ _ _ (named n few ∙ sym e) few refl (sym (now-is past)) refl refl refl refl (rw (now-is past) at (sym load)) .next) ∙
+    let decided =
+    decide (recordOf past) c n (millisecondsOf c) (enabledTime past % span past) _ _ _ _ _ (named n few ∙ sym e) few
+    refl (sym (now-is past)) refl refl refl refl (rw (now-is past) at (sym load))
+    in
+    sym (decided .next) ∙
     (λ i. record {
       settings = inForce past;
       timer = timerAt past;

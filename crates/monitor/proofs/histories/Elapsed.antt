@@ -1,18 +1,19 @@
 -- Elapsed time makes of the record that the facts describe the one that they describe after it.
 use Prim.Native.Nat.{ℕ, suc, _+_, _*_, _-_, _/_, _%_, _≤_, _<_}
 use mathlib.Core.Path.{_≡_, refl, sym, ap, _∙_}
-use mathlib.Core.Bool.{Bool, true, false, cond, not}
+use mathlib.Core.Bool.{Bool, true, false, cond}
 use mathlib.Core.List.{List, [], _∷_}
 use native.Mathlib.Numerals.{add-one}
 use native.Mathlib.Omega.{arith}
-use lib.Dec.{eqb, leb, eqb·suc-suc, ltb}
+use lib.Dec.{leb, eqb·suc-suc, ltb}
 use lib.ListN.{replicate}
-use borrow.Author.Tests.{eq-eqb, ne-eqb, lt-ltb, le-ltb, le-leb, lt-leb, leb-true, leb-false}
+use borrow.Author.Tests.{ne-eqb, lt-ltb, le-ltb, le-leb, lt-leb, leb-true, leb-false}
 use Rattle.logpage.specs.Fields.{emptyWindow}
 use Rattle.monitor.specs.declared.record.Monitor.{Monitor}
 use Rattle.monitor.specs.declared.timer.Tick.{Tick}
 use Rattle.monitor.specs.Claims.{loadedOf, recordOf}
-use Rattle.monitor.specs.Facts.{inForce, sum, clockAt, hostAt, timerThreshold, enabledTime, windowAt, timerAt, Counted}
+use Rattle.monitor.specs.Facts.{inForce, sum, clockAt, hostAt, timerThreshold, enabledTime, windowAt, timerAt}
+use Rattle.monitor.specs.Facts.{Counted}
 use Rattle.monitor.specs.Facts.{filter, activeFor, active, static, countOf, lastLoad, stampOf, latencyOf, unitsOf}
 use Rattle.monitor.specs.Facts.{each, windowFrom, debugAt, sinceEnabled}
 use Rattle.monitor.specs.History.{passed, Past, latest, since}
@@ -29,7 +30,8 @@ use Rattle.monitor.proofs.histories.Windows.{goes-on, ends, ends-timer,
 -- the facts after time that brought the time while enabled to t
 abbrev after-time : Past → ℕ → ℕ → Monitor
 after-time past ms t =
-    described (inForce past) (t / 300000 - t / span past * timerThreshold past) (hostAt past) (t % 300000) (grown (clockAt past) ms)
+    described (inForce past) (t / 300000 - t / span past * timerThreshold past) (hostAt past) (t % 300000)
+    (grown (clockAt past) ms)
     (debugAt past) (t / span past) (sinceEnabled past)
 
 time-after :
@@ -47,7 +49,8 @@ clock-after past ms = omega arith
 facts-after : (past : Past) (ms : ℕ) → recordOf (passed ms ∷ past) ≡ after-time past ms (enabledTime (passed ms ∷ past))
 unfolding recordOf inForce hostAt timerAt windowAt timerThreshold active static debugAt latest since
 facts-after past ms =
-    ap (λ n. described (inForce past) (timerAt (passed ms ∷ past)) (hostAt past) (enabledTime (passed ms ∷ past) % 300000) n (debugAt past) (windowAt (passed ms ∷ past)) (sinceEnabled past))
+    ap (λ n. described (inForce past) (timerAt (passed ms ∷ past)) (hostAt past)
+    (enabledTime (passed ms ∷ past) % 300000) n (debugAt past) (windowAt (passed ms ∷ past)) (sinceEnabled past))
     (clock-after past ms)
 
 -- what a window's end makes of what is asked of each counter's completions
@@ -59,7 +62,8 @@ module _ (past : Past) (g : Good past) {A : Type 0} (f : List Counted → A) whe
       late k x h = rw (ne-eqb (windowAt (x .before)) (suc (windowAt past)) (λ e. omega (arith, h .early)))
 
       nothing-late : (k : ℕ) → filter (within (suc (windowAt past)) k) (sinceEnabled past) ≡ []
-      nothing-late k = those-none (within (suc (windowAt past)) k) (Fine past) (late k) (sinceEnabled past) (fine past g)
+      nothing-late k =
+          those-none (within (suc (windowAt past)) k) (Fine past) (late k) (sinceEnabled past) (fine past g)
 
 handed-on :
     (past : Past) →
@@ -68,7 +72,8 @@ handed-on :
     active past k ≡ filter (preceding (suc (windowAt past)) k) (sinceEnabled past)
 unfolding active
 handed-on past g k =
-    those-same (activeFor past k) (Fine past) (preceding (suc (windowAt past)) k) (λ x h. rw (add-one, eqb·suc-suc (windowAt (x .before)) (windowAt past)))
+    those-same (activeFor past k) (Fine past) (preceding (suc (windowAt past)) k)
+    (λ x h. rw (add-one, eqb·suc-suc (windowAt (x .before)) (windowAt past)))
     (sinceEnabled past) (fine past g)
 
 empty-handed :

@@ -14,10 +14,12 @@ use Rattle.logpage.specs.declared.Settings.{Settings}
 use Rattle.monitor.specs.declared.record.Monitor.{Monitor}
 use Rattle.monitor.specs.Commands.{counterOf}
 use Rattle.monitor.specs.Claims.{loadedOf, recordOf}
-use Rattle.monitor.specs.Facts.{inForce, sum, time, clockAt, hostAt, timerThreshold, enabledTime, windowAt, timerAt}
+use Rattle.monitor.specs.Facts.{inForce, sum, time, clockAt, hostAt, timerThreshold, enabledTime, windowAt}
+use Rattle.monitor.specs.Facts.{timerAt}
 use Rattle.monitor.specs.Facts.{Counted, filter, activeFor, active, static, orLoad, loadsAfter, lastLoad}
 use Rattle.monitor.specs.Facts.{each, windowFrom, debugAt, sinceEnabled}
-use Rattle.monitor.specs.History.{Effect, configured, completed, passed, clockSet, poweredUp, nothing, Past, unlessFound, onlyIf}
+use Rattle.monitor.specs.History.{Effect, configured, completed, passed, clockSet, poweredUp, nothing, Past}
+use Rattle.monitor.specs.History.{unlessFound, onlyIf}
 use Rattle.monitor.specs.History.{found, latest, since, andThen}
 use Rattle.monitor.specs.Settings.{decoded}
 use Rattle.monitor.proofs.histories.Lists.{All, Some, all-map}
@@ -37,7 +39,10 @@ Good [] = Unit {0}
 Good (e ∷ past) = Ok e × Good past
 
 -- while enabled, the settings in force are those with enable 1 last accepted
-pub enabled-threshold : (past : Past) → inForce past .enabled ≡ true → inForce past .«timer_threshold» ≡ timerThreshold past
+pub enabled-threshold :
+    (past : Past) →
+    inForce past .enabled ≡ true →
+    inForce past .«timer_threshold» ≡ timerThreshold past
 unfolding inForce timerThreshold latest noSettings
 enabled-threshold [] on = absurd (false≢true on)
 enabled-threshold (configured s ∷ past) on = rw on
@@ -88,16 +93,22 @@ fine (configured s ∷ past) g = go (decoded s .enabled) refl (fine past (g .1))
         All (Fine (configured s ∷ past)) (unlessFound (onlyIf b (decoded s)) (sinceEnabled past))
     go true e f = tt
     go false e f =
-        all-map (λ x k. record { early = rw e (k .early); apart = λ on. absurd (true≢false (sym on ∙ e)) }) (sinceEnabled past) f
+        all-map (λ x k. record { early = rw e (k .early); apart = λ on. absurd (true≢false (sym on ∙ e)) })
+        (sinceEnabled past) f
 fine (completed c ∷ past) g = go (counterOf (inForce past) c) (fine past (g .1))
   where
     same : All (Fine past) (sinceEnabled past) → All (Fine (completed c ∷ past)) (sinceEnabled past)
     same f = all-map (λ x k. record { early = k .early; apart = k .apart }) (sinceEnabled past) f
 
-    go : (n : Option ℕ) → All (Fine past) (sinceEnabled past) → All (Fine (completed c ∷ past)) (andThen (found none (λ m. some (record { counter = m; command = c; before = past })) n) (sinceEnabled past))
+    go :
+        (n : Option ℕ) →
+        All (Fine past) (sinceEnabled past) →
+        All (Fine (completed c ∷ past)) (andThen (found none (λ m. some (record { counter = m; command = c; before = past })) n) (sinceEnabled past))
     go none f = same f
-    go (some n) f =
-        (record { early = omega arith; apart = λ on. omega (arith, div-add-mod' (enabledTime past) (span past)) }, same f)
+    go (some n) f = (
+      record { early = omega arith; apart = λ on. omega (arith, div-add-mod' (enabledTime past) (span past)) },
+      same f,
+    )
 fine (passed ms ∷ past) g = go (inForce past .enabled) refl (fine past (g .1))
   where
     go :
@@ -108,12 +119,19 @@ fine (passed ms ∷ past) g = go (inForce past .enabled) refl (fine past (g .1))
     go true q f =
         all-map
         (λ x k. record {
-          early = rw q (omega (arith, k .early, later (enabledTime past) ms (span past) (omega (arith, enabled-positive past (g .1) q))));
+          early =
+              rw q (omega (
+                arith,
+                k .early,
+                later (enabledTime past) ms (span past)
+                    (omega (arith, enabled-positive past (g .1) q)),
+              ));
           apart = λ on. rw q (omega (arith, k .apart on));
         })
         (sinceEnabled past) f
     go false q f =
-        all-map (λ x k. record { early = rw q (k .early); apart = λ on. absurd (true≢false (sym on ∙ q)) }) (sinceEnabled past) f
+        all-map (λ x k. record { early = rw q (k .early); apart = λ on. absurd (true≢false (sym on ∙ q)) })
+        (sinceEnabled past) f
 fine (clockSet value ∷ past) g =
     all-map (λ x k. record { early = k .early; apart = k .apart }) (sinceEnabled past) (fine past (g .1))
 fine (poweredUp ∷ past) g =
@@ -184,7 +202,8 @@ described settings timer host partial clock debug w xs =
 pub as-described :
     (past : Past) →
     recordOf past ≡
-    described (inForce past) (timerAt past) (hostAt past) (enabledTime past % 300000) (clockAt past) (debugAt past) (windowAt past)
+    described (inForce past) (timerAt past) (hostAt past) (enabledTime past % 300000) (clockAt past) (debugAt past)
+    (windowAt past)
     (sinceEnabled past)
 unfolding recordOf active static
 as-described past = refl

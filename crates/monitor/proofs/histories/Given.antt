@@ -14,7 +14,7 @@ use Rattle.endian.proofs.Bytes.{none-set}
 use Rattle.logpage.specs.Block.{flag}
 use Rattle.logpage.specs.Fields.{noSettings}
 use Rattle.logpage.specs.Page.{pageBytes}
-use Rattle.monitor.specs.Claims.{recordOf, PageShowsFacts, lastAccepted, SettingsComeBack}
+use Rattle.monitor.specs.Claims.{recordOf, PageShowsFacts, SettingsShowFacts, lastAccepted, SettingsComeBack}
 use Rattle.monitor.specs.Facts.{inForce, from, factsOf}
 use Rattle.monitor.specs.History.{Bytes, settingsIn, found, latest, pastOf}
 use Rattle.monitor.specs.Report.{fieldsOf, pageOf, settingsOf}
@@ -27,6 +27,10 @@ use Rattle.monitor.proofs.refusals.Laws.{Accepted, accepted}
 pub page-shows-facts : PageShowsFacts
 unfolding pageOf recordOf factsOf
 page-shows-facts h = ap (λ m. pageBytes (fieldsOf m)) (played-as-facts h)
+
+pub settings-show-facts : SettingsShowFacts
+unfolding settingsOf recordOf
+settings-show-facts h = ap (λ m. encoded (m .settings)) (played-as-facts h)
 
 -- a list is its first n entries and the rest
 heads : (s : List ℕ) (i n : ℕ) → i + n ≤ length s → drop i s ≡ from i n (λ k. getD s k 0) ++ drop (i + n) s
@@ -71,7 +75,8 @@ round-trip s b a = ap front (sym rest) ∙ laid ∙ ap (λ t. set t 11 0) (sym (
   where
     front : List ℕ → List ℕ
     front t =
-        lowFirst 2 (getD s 0 0 + 256 * getD s 1 0) ++ lowFirst 1 (getD s 2 0) ++ lowFirst 1 (getD s 3 0) ++ lowFirst 1 (getD s 4 0)
+        lowFirst 2 (getD s 0 0 + 256 * getD s 1 0) ++ lowFirst 1 (getD s 2 0) ++ lowFirst 1 (getD s 3 0) ++
+        lowFirst 1 (getD s 4 0)
         ++ lowFirst 1 (getD s 5 0) ++ lowFirst 2 (getD s 6 0 + 256 * getD s 7 0) ++ lowFirst 1 (getD s 8 0)
         ++ lowFirst 2 (getD s 9 0 + 256 * getD s 10 0) ++ (0 ∷ []) ++ lowFirst 1 (flag (eqb (getD s 12 0) 1)) ++ t
 
@@ -100,9 +105,9 @@ unfolding encoded noSettings lowFirst
 none-back = refl
 
 pub settings-come-back : SettingsComeBack
-unfolding settingsOf recordOf inForce lastAccepted
+unfolding inForce lastAccepted
 settings-come-back h b =
-    ap (λ m. encoded (m .settings)) (played-as-facts h) ∙
+    settings-show-facts h ∙
     by (latest settingsIn (pastOf h)) (latest-some Sound settingsIn (pastOf h) (sound-past h b))
   where
     by :

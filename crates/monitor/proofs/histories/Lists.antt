@@ -38,7 +38,8 @@ module _ {A : Type 0} where
   unfolding from
   from-set i zero f j v = refl
   from-set i (suc n) f zero v =
-      λ t. but-there (i + 0) v f i (omega arith) t ∷ from-same (suc i) n f (but (i + 0) v f) (λ k l m. but-elsewhere (i + 0) v f k (λ e. omega arith)) t
+      λ t. but-there (i + 0) v f i (omega arith) t ∷
+      from-same (suc i) n f (but (i + 0) v f) (λ k l m. but-elsewhere (i + 0) v f k (λ e. omega arith)) t
   from-set i (suc n) f (suc j) v =
       let e : suc i + j ≡ i + suc j = omega arith in
       λ t. but-elsewhere (i + suc j) v f i (λ q. omega arith) t ∷ (rw e at (from-set (suc i) n f j v)) t

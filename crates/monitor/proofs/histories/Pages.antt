@@ -25,9 +25,13 @@ module _ (f g : ℕ → List Counted) where
   windows-same h =
       λ i. record {
         counters = from-same 0 12 (λ n. countOf (f n)) (λ n. countOf (g n)) (λ n l few. h n few .count) i;
-        stamps = from-same 0 12 (λ n. stampOf (lastLoad (f n))) (λ n. stampOf (lastLoad (g n))) (λ n l few. h n few .stamp) i;
-        latencies = from-same 0 12 (λ n. latencyOf (lastLoad (f n))) (λ n. latencyOf (lastLoad (g n))) (λ n l few. h n few .latency) i;
-        units = from-same 0 12 (λ n. unitsOf (lastLoad (f n))) (λ n. unitsOf (lastLoad (g n))) (λ n l few. h n few .units) i;
+        stamps =
+            from-same 0 12 (λ n. stampOf (lastLoad (f n))) (λ n. stampOf (lastLoad (g n))) (λ n l few. h n few .stamp) i;
+        latencies =
+            from-same 0 12 (λ n. latencyOf (lastLoad (f n))) (λ n. latencyOf (lastLoad (g n)))
+            (λ n l few. h n few .latency) i;
+        units =
+            from-same 0 12 (λ n. unitsOf (lastLoad (f n))) (λ n. unitsOf (lastLoad (g n))) (λ n l few. h n few .units) i;
       }
 
   counters-same : windowFrom f ≡ windowFrom g → (n : ℕ) → n < 12 → SameCounter (f n) (g n)
@@ -35,8 +39,10 @@ module _ (f g : ℕ → List Counted) where
       record {
         count = each-at 0 (λ k. countOf (f k)) (λ k. countOf (g k)) (ap (λ w. w .counters) e) n few;
         stamp = each-at 0 (λ k. stampOf (lastLoad (f k))) (λ k. stampOf (lastLoad (g k))) (ap (λ w. w .stamps) e) n few;
-        latency = each-at 0 (λ k. latencyOf (lastLoad (f k))) (λ k. latencyOf (lastLoad (g k))) (ap (λ w. w .latencies) e) n few;
-        units = each-at false (λ k. unitsOf (lastLoad (f k))) (λ k. unitsOf (lastLoad (g k))) (ap (λ w. w .units) e) n few;
+        latency =
+            each-at 0 (λ k. latencyOf (lastLoad (f k))) (λ k. latencyOf (lastLoad (g k))) (ap (λ w. w .latencies) e) n few;
+        units =
+            each-at false (λ k. unitsOf (lastLoad (f k))) (λ k. unitsOf (lastLoad (g k))) (ap (λ w. w .units) e) n few;
       }
 
 module _ (a b : Past) where
@@ -64,6 +70,7 @@ module _ (a b : Past) where
 
 pub pages-agree : PagesAgree
 pages-agree h k b c = (
-  λ e. facts-agree (pastOf h) (pastOf k) (page-apart _ _ (facts-fit h b) (facts-fit k c) (sym (page-shows-facts h) ∙ e ∙ page-shows-facts k)),
+  λ e. facts-agree (pastOf h) (pastOf k) (page-apart _ _ (facts-fit h b) (facts-fit k c)
+      (sym (page-shows-facts h) ∙ e ∙ page-shows-facts k)),
   λ a. page-shows-facts h ∙ ap pageBytes (facts-same (pastOf h) (pastOf k) a) ∙ sym (page-shows-facts k),
 )

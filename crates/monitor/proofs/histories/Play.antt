@@ -1,5 +1,5 @@
 -- What a history leaves of a new monitor is the record that its facts describe.
-use Prim.Native.Nat.{ℕ, _+_, _*_, _-_, _/_, _%_, _≤_, _<_, min}
+use Prim.Native.Nat.{ℕ, _+_, _*_, _-_, _/_, _%_, _≤_, min}
 use mathlib.Core.Path.{_≡_, refl, sym, ap, _∙_}
 use mathlib.Core.Bool.{Bool, true, false, cond}
 use mathlib.Core.List.{List, [], _∷_}
@@ -7,21 +7,27 @@ use mathlib.Core.Option.{Option, none, some}
 use native.Mathlib.Nat.{zero-div, zero-mul}
 use native.Mathlib.Omega.{arith}
 use lib.Dec.{eqb, ltb}
-use borrow.Author.Tests.{le-ltb, ltb-true, ltb-false, eqb-true, eqb-false}
-use Rattle.logpage.specs.Fields.{noSettings, emptyWindow, noDebugLog}
+use borrow.Author.Tests.{le-ltb}
+use Rattle.logpage.specs.Fields.{emptyWindow, noDebugLog}
 use Rattle.monitor.specs.declared.record.Monitor.{Monitor}
 use Rattle.monitor.specs.Answers.{refused, ended, unlessRefused}
 use Rattle.monitor.specs.Claims.{recordOf, PlayedAsFacts, WindowEnds}
-use Rattle.monitor.specs.Facts.{inForce, sum, clockAt, hostAt, timerThreshold, enabledTime, windowAt, timerAt, Counted, countedAt, filter, active, static, countOf, lastLoad, from, each, windowFrom, discardIn, triggered, earliest, logOf, debugAt, sinceEnabled}
-use Rattle.monitor.specs.History.{Call, settings, completion, elapsed, clock, powerUp, page, settingsBack, History, after, playFrom, play, Effect, configured, clockSet, poweredUp, nothing, passed, asked, refusalOf, ifAccepted, effectOf, Past, pastOf, found, latest, since, unlessFound, onlyIf}
+use Rattle.monitor.specs.Facts.{inForce, sum, clockAt, hostAt, timerThreshold, enabledTime, windowAt, timerAt}
+use Rattle.monitor.specs.Facts.{Counted, countedAt, filter, active, static, countOf, lastLoad, from, discardIn}
+use Rattle.monitor.specs.Facts.{triggered, earliest, logOf, debugAt, sinceEnabled}
+use Rattle.monitor.specs.History.{Call, settings, completion, elapsed, clock, powerUp, page, settingsBack}
+use Rattle.monitor.specs.History.{History, after, playFrom, Effect, configured, clockSet, poweredUp, nothing}
+use Rattle.monitor.specs.History.{passed, asked, refusalOf, ifAccepted, Past, pastOf, found, latest, since}
+use Rattle.monitor.specs.History.{unlessFound, onlyIf}
 use Rattle.monitor.specs.Record.{newMonitor, afterSettings, afterElapsed, elapsedReply, afterClock, afterPowerUp}
-use Rattle.monitor.specs.Refusals.{settingsRefusal, fieldRefusal, elapsedRefusal, clockRefusal, eitherAbove, pageRefusal, settingsBackRefusal}
+use Rattle.monitor.specs.Refusals.{settingsRefusal, elapsedRefusal, clockRefusal, pageRefusal}
+use Rattle.monitor.specs.Refusals.{settingsBackRefusal}
 use Rattle.monitor.specs.Settings.{decoded, discard}
 use Rattle.monitor.proofs.record.Laws.{configured as reset, settings-accepted}
 use Rattle.monitor.proofs.refusals.Laws.{accepted, elapsed-fits, clock-fits}
 use Rattle.monitor.proofs.histories.Completions.{completion-step}
 use Rattle.monitor.proofs.histories.Elapsed.{elapsed-step, elapsed-answer}
-use Rattle.monitor.proofs.histories.Facts.{Ok, Good, described, as-described}
+use Rattle.monitor.proofs.histories.Facts.{Ok, Good, described}
 
 -- the facts after settings that are accepted, by whether they enable
 module _ (past : Past) (s : List ℕ) where
@@ -30,12 +36,18 @@ module _ (past : Past) (s : List ℕ) where
   time-after true e = rw e
   time-after false e = rw e
 
-  threshold-after : (b : Bool) → decoded s .enabled ≡ b → timerThreshold (configured s ∷ past) ≡ cond b (decoded s .«timer_threshold») (timerThreshold past)
+  threshold-after :
+      (b : Bool) →
+      decoded s .enabled ≡ b →
+      timerThreshold (configured s ∷ past) ≡ cond b (decoded s .«timer_threshold») (timerThreshold past)
   unfolding timerThreshold latest
   threshold-after true e = rw e
   threshold-after false e = rw e
 
-  counted-after : (b : Bool) → decoded s .enabled ≡ b → sinceEnabled (configured s ∷ past) ≡ cond b [] (sinceEnabled past)
+  counted-after :
+      (b : Bool) →
+      decoded s .enabled ≡ b →
+      sinceEnabled (configured s ∷ past) ≡ cond b [] (sinceEnabled past)
   unfolding since
   counted-after true e = rw e
   counted-after false e = rw e
@@ -44,7 +56,10 @@ module _ (past : Past) (s : List ℕ) where
   unfolding debugAt since earliest filter
   debug-after = by (eqb (discard s) 1)
     where
-      by : (b : Bool) → found noDebugLog logOf (earliest (filter triggered (unlessFound (onlyIf b s) (since discardIn countedAt past)))) ≡ cond b noDebugLog (debugAt past)
+      by :
+          (b : Bool) →
+          found noDebugLog logOf (earliest (filter triggered
+          (unlessFound (onlyIf b s) (since discardIn countedAt past)))) ≡ cond b noDebugLog (debugAt past)
       by true = refl
       by false = refl
 
@@ -56,14 +71,18 @@ module _ (past : Past) (s : List ℕ) where
       (t / (300000 * p))
       xs
 
-  facts-after : recordOf (configured s ∷ past) ≡ of-these (enabledTime (configured s ∷ past)) (timerThreshold (configured s ∷ past)) (sinceEnabled (configured s ∷ past))
+  facts-after :
+      recordOf (configured s ∷ past) ≡
+      of-these (enabledTime (configured s ∷ past)) (timerThreshold (configured s ∷ past))
+      (sinceEnabled (configured s ∷ past))
   unfolding recordOf inForce clockAt hostAt timerAt windowAt active static latest since
   facts-after = rw debug-after
 
   emptied-or-kept :
       (b : Bool) →
       reset (recordOf past) (decoded s) (cond (eqb (discard s) 1) noDebugLog (debugAt past)) b ≡
-      of-these (cond b 0 (enabledTime past)) (cond b (decoded s .«timer_threshold») (timerThreshold past)) (cond b [] (sinceEnabled past))
+      of-these (cond b 0 (enabledTime past)) (cond b (decoded s .«timer_threshold») (timerThreshold past))
+      (cond b [] (sinceEnabled past))
   unfolding recordOf timerAt windowAt active static emptyWindow filter lastLoad countOf from
   emptied-or-kept true = rw (zero-div (300000 * decoded s .«timer_threshold»), zero-mul (decoded s .«timer_threshold»))
   emptied-or-kept false = refl
@@ -71,17 +90,23 @@ module _ (past : Past) (s : List ℕ) where
   settings-step : settingsRefusal s ≡ none → afterSettings (recordOf past) s ≡ recordOf (configured s ∷ past)
   unfolding recordOf
   settings-step e =
-      sym (settings-accepted (recordOf past) s (decoded s) (cond (eqb (discard s) 1) noDebugLog (debugAt past)) (decoded s .enabled) e refl refl refl .0) ∙
+      sym (settings-accepted (recordOf past) s (decoded s) (cond (eqb (discard s) 1) noDebugLog (debugAt past))
+      (decoded s .enabled) e refl refl refl .0) ∙
       emptied-or-kept (decoded s .enabled) ∙
-      (λ i. of-these (sym (time-after (decoded s .enabled) refl) i) (sym (threshold-after (decoded s .enabled) refl) i) (sym (counted-after (decoded s .enabled) refl) i)) ∙
+      (λ i. of-these (sym (time-after (decoded s .enabled) refl) i)
+      (sym (threshold-after (decoded s .enabled) refl) i) (sym (counted-after (decoded s .enabled) refl) i)) ∙
       sym facts-after
 
-clock-step : (past : Past) (value : ℕ) → value ≤ 281474976710655 → afterClock (recordOf past) value ≡ recordOf (clockSet value ∷ past)
+clock-step :
+    (past : Past) (value : ℕ) →
+    value ≤ 281474976710655 →
+    afterClock (recordOf past) value ≡ recordOf (clockSet value ∷ past)
 unfolding afterClock clockRefusal recordOf inForce clockAt hostAt timerAt windowAt enabledTime timerThreshold active static debugAt latest since sum
 clock-step past value h =
     let e : value ≡ min (value + 0) 281474976710655 = omega arith in
     rw (le-ltb 281474976710655 value h)
-    (ap (λ n. described (inForce past) (timerAt past) true (enabledTime past % 300000) n (debugAt past) (windowAt past) (sinceEnabled past)) e)
+    (ap (λ n. described (inForce past) (timerAt past) true (enabledTime past % 300000) n (debugAt past)
+    (windowAt past) (sinceEnabled past)) e)
 
 power-up-step : (past : Past) → afterPowerUp (recordOf past) ≡ recordOf (poweredUp ∷ past)
 unfolding afterPowerUp recordOf inForce clockAt hostAt timerAt windowAt enabledTime timerThreshold active static debugAt latest since sum
@@ -117,7 +142,9 @@ module _ (m : Monitor) (n : ℕ) where
 Step : Past → Call → Option ℕ → Effect → Type 0
 Step past c r e = Ok (ifAccepted r e) × (after c (recordOf past) ≡ recordOf (ifAccepted r e ∷ past))
 
-reads : (past : Past) (r : Option ℕ) → Ok (ifAccepted r nothing) × (recordOf past ≡ recordOf (ifAccepted r nothing ∷ past))
+reads :
+    (past : Past) (r : Option ℕ) →
+    Ok (ifAccepted r nothing) × (recordOf past ≡ recordOf (ifAccepted r nothing ∷ past))
 reads past none = (tt, nothing-step past)
 reads past (some n) = (tt, nothing-step past)
 

@@ -1,7 +1,8 @@
 -- Increments and windows as numbers: t is the time while enabled, p the timer timerThreshold, ms the time that passes.
 use Prim.Native.Nat.{ℕ, suc, _+_, _*_, _-_, _/_, _%_, _≤_, _<_}
 use mathlib.Core.Path.{_≡_, sym, _∙_}
-use native.Mathlib.Nat.{le-div-iff-mul-le, div-div-eq-div-mul, div-eq-of-lt-le, div-mul-le-self, lt-div-mul-add, div-add-mod'}
+use native.Mathlib.Nat.{le-div-iff-mul-le, div-div-eq-div-mul, div-eq-of-lt-le, div-mul-le-self, lt-div-mul-add}
+use native.Mathlib.Nat.{div-add-mod'}
 use native.Mathlib.Omega.{arith}
 
 nested : (t p : ℕ) → t / (300000 * p) ≡ t / 300000 / p

@@ -21,7 +21,8 @@ use Rattle.monitor.specs.Commands.{saysCounter, counterOf, millisecondsO
 use Rattle.monitor.specs.Timer.{grown, ticked, inWindow}
 use Rattle.monitor.proofs.settings.Laws.{refused-by}
 use Rattle.monitor.proofs.commands.Laws.{named, unnamed}
-use Rattle.monitor.specs.Record.{noLoads, afterSettings, settingsReply, afterCompletion, completionReply, afterElapsed, elapsedReply}
+use Rattle.monitor.specs.Record.{noLoads, afterSettings, settingsReply, afterCompletion, completionReply}
+use Rattle.monitor.specs.Record.{afterElapsed, elapsedReply}
 
 -- settings that are turned away
 pub settings-refused :

@@ -2,14 +2,15 @@
 use mathlib.Core.Path.{_≡_, refl}
 use mathlib.Core.Bool.{Bool, true, false, not}
 use mathlib.Core.List.{List}
-use mathlib.Core.Option.{Option, none, some}
+use mathlib.Core.Option.{Option, none}
 use Prim.Native.Nat.{ℕ, _≤_, _<_}
 use native.Mathlib.Omega.{arith}
 use lib.Dec.{eqb}
 use lib.ListN.{length, drop}
 use borrow.Author.Tests.{eqb-true, eqb-false, ltb-false}
 use Rattle.endian.specs.Bytes.{anySet}
-use Rattle.monitor.specs.Refusals.{row, eitherAbove, unordered, fieldRefusal, settingsRefusal, elapsedRefusal, clockRefusal}
+use Rattle.monitor.specs.Refusals.{row, eitherAbove, unordered, fieldRefusal, settingsRefusal, elapsedRefusal}
+use Rattle.monitor.specs.Refusals.{clockRefusal}
 use Rattle.monitor.specs.Settings.{discard, enable, decoded}
 
 passed : (n : ℕ) (b : Bool) (later : Option ℕ) → row n b later ≡ none → (b ≡ false) × (later ≡ none)

@@ -1,6 +1,6 @@
 -- What the calls that only read come to, as laws over plain values.
-use mathlib.Core.Path.{_≡_, sym, ap, _∙_}
-use mathlib.Core.Bool.{Bool, true, false, cond}
+use mathlib.Core.Path.{_≡_, ap, _∙_}
+use mathlib.Core.Bool.{true, false, cond}
 use mathlib.Core.List.{List}
 use Prim.Native.Nat.{ℕ}
 use lib.Dec.{eqb}
@@ -13,7 +13,8 @@ use Rattle.monitor.specs.Claims.{pageByFacts, settingsByFacts}
 use Rattle.monitor.specs.History.{History, OfBytes, play}
 use Rattle.monitor.specs.Record.{untouchedIf}
 use Rattle.monitor.specs.Refusals.{pageRefusal, settingsBackRefusal}
-use Rattle.monitor.specs.Report.{fieldsOf, pageOf, afterPage, pageReply, settingsOf, afterSettingsBack, settingsBackReply}
+use Rattle.monitor.specs.Report.{fieldsOf, pageOf, afterPage, pageReply, settingsOf, afterSettingsBack}
+use Rattle.monitor.specs.Report.{settingsBackReply}
 use Rattle.monitor.specs.Settings.{encoded}
 use Rattle.monitor.proofs.histories.Given.{page-shows-facts, settings-come-back}
 
@@ -46,9 +47,15 @@ module _ (m : Monitor) (buffer after : List ℕ) where
   abbrev pub SettingsSay : Reply → Type 0
   SettingsSay reply =
       (after ≡ afterSettingsBack m buffer)
-      × ((reply ≡ settingsBackReply (length buffer)) × ((h : History) → OfBytes h → m ≡ play h → after ≡ settingsByFacts h buffer))
+      × ((reply ≡ settingsBackReply (length buffer)) ×
+      ((h : History) → OfBytes h → m ≡ play h → after ≡ settingsByFacts h buffer))
 
-  settings-by-facts : after ≡ afterSettingsBack m buffer → (h : History) → OfBytes h → m ≡ play h → after ≡ settingsByFacts h buffer
+  settings-by-facts :
+      after ≡ afterSettingsBack m buffer →
+      (h : History) →
+      OfBytes h →
+      m ≡ play h →
+      after ≡ settingsByFacts h buffer
   unfolding afterSettingsBack settingsByFacts
   settings-by-facts e h b leads =
       e ∙ ap (untouchedIf (settingsBackRefusal (length buffer)) buffer) (ap settingsOf leads ∙ settings-come-back h b)

@@ -41,13 +41,17 @@ enum-known-at c = search needs
 past :
     (c : tie.After-known-told Inv-loop μ-loop) →
     let u = c .before .before .before .before in
-    u .before .before .loop .i + c .before .at .given .0 .0 < length (u .before .before .before .before .args .s .now) / 16
+    u .before .before .loop .i + c .before .at .given .0 .0 < length
+    (u .before .before .before .before .args .s .now) / 16
 past c =
     let u = c .before .before .before .before in
     let i = u .before .before .loop .i in
     let e = rw (part-to-end _ (16 * i)) at (u .run .ensures .1) in
-    omega
-    (arith, in-file _ _ (sym (ap saysPlace (c .before .at .given .1)) ∙ e), length-drop (16 * i) (u .before .before .before .before .args .s .now))
+    omega (
+      arith,
+      in-file _ _ (sym (ap saysPlace (c .before .at .given .1)) ∙ e),
+      length-drop (16 * i) (u .before .before .before .before .args .s .now),
+    )
 
 add-i : tie.Need-add-i Inv-loop μ-loop
 add-i c = omega (arith, past c)

@@ -41,7 +41,8 @@ enum-known-at c = search needs
 -- what a run leaves that stopped at a refused record
 past :
     (c : tie.After-known-told Inv-loop μ-loop) →
-    Replayed (c .before .before .before .before .before .before .before .before .args .m) (c .before .before .before .before .before .before .before .before .args .s .now)
+    Replayed (c .before .before .before .before .before .before .before .before .args .m)
+    (c .before .before .before .before .before .before .before .before .args .s .now)
     (c .before .before .before .before .run .result .monitor)
     (c .before .before .before .before .before .before .loop .i + c .before .at .given .0 .0 + 1)
 past c =

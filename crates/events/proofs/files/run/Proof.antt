@@ -53,7 +53,8 @@ loop-again c =
     let r = c .before .before .before in
     let l = r .before .before .before .before .before .loop in
     let made =
-    passed-over _ _ _ _ (sixteen _ (l .i) (search needs)) (sym (r .before .before .is-completion .ensures) ∙ r .before .if1 .taken)
+    passed-over _ _ _ _ (sixteen _ (l .i) (search needs))
+    (sym (r .before .before .is-completion .ensures) ∙ r .before .if1 .taken)
     (r .completion .ensures)
     (c .before .counter .ensures)
     (c .if2 .taken)
@@ -74,14 +75,18 @@ loop-again-2 c =
     let r = c .before .before .before .before .before in
     let l = r .before .before .before .before .before .loop in
     let call =
-    completion-call _ (sixteen _ (l .i) (search needs)) (sym (r .before .before .is-completion .ensures) ∙ r .before .if1 .taken)
+    completion-call _ (sixteen _ (l .i) (search needs))
+    (sym (r .before .before .is-completion .ensures) ∙ r .before .if1 .taken)
     in
     let made = stands-for _ _ _ _ _ call (rw (r .completion .ensures) at (c .before .completion2 .ensures .0)) refl in
     went-on _ _ _ _ (l .i) _ (l .inv) (the-record _ (l .i)) (made .0) (made .1) (search needs)
 
 other-requires : tie.Need-other-requires Inv-loop μ-loop
-other-requires c κs =
-    (sixteen _ (c .before .before .before .before .loop .i) (search needs), sym (c .before .is-completion .ensures) ∙ c .if1 .left)
+other-requires c κs = (
+  sixteen _ (c .before .before .before .before .loop .i) (search needs),
+  sym (c .before .is-completion .ensures) ∙
+      c .if1 .left,
+)
 
 enum-known-answer : tie.Need-enum-known-answer Inv-loop μ-loop
 enum-known-answer c = search needs

@@ -32,7 +32,8 @@ returns : tie.Need-returns
 returns c =
     let l = c .before .before .before in
     let a = l .before .before .before .args in
-    cleared (a .r .now) (a .from) (a .to) (a .rest) _ _ (l .load .ensures) (c .before .before .if1 .taken) (c .load2 .ensures)
+    cleared (a .r .now) (a .from) (a .to) (a .rest) _ _ (l .load .ensures) (c .before .before .if1 .taken)
+    (c .load2 .ensures)
     (search needs)
     (search needs)
 

@@ -40,8 +40,11 @@ load-requires c κs = search needs
 cast-elapsed : tie.Need-cast-elapsed
 cast-elapsed c =
     let l = c .before .before .before .before .before in
-    omega
-    (arith, fits (l .before .before .args .r .now) _ (c .load .ensures) (λ k. omega (arith, l .shared-slice-known2 .given k)))
+    omega (
+      arith,
+      fits (l .before .before .args .r .now) _ (c .load .ensures)
+          (λ k. omega (arith, l .shared-slice-known2 .given k)),
+    )
 
 elapsed-requires : tie.Need-elapsed-requires
 elapsed-requires c κs = search needs

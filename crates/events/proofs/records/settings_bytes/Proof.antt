@@ -38,12 +38,16 @@ loop-less c = search needs
 loop-again : tie.Need-loop-again Inv-loop μ-loop
 loop-again c =
     let l = c .before .before .loop in
-    let r = c .before .before .before .before .before .args .r .now in
-    (search needs, one-byte _ r _ (l .i) (c .before .before .before .zeros .ensures) (l .inv .1) (search needs) (search needs))
+    let r = c .before .before .before .before .before .args .r .now in (
+      search needs,
+      one-byte _ r _ (l .i) (c .before .before .before .zeros .ensures) (l .inv .1) (search needs)
+          (search needs),
+    )
 
 returns : tie.Need-returns Inv-loop μ-loop
 returns c =
-    thirteen-bytes _ _ _ (c .before .loop .i) (c .before .before .zeros .ensures) (c .before .loop .inv .1) (search needs)
+    thirteen-bytes _ _ _ (c .before .loop .i) (c .before .before .zeros .ensures) (c .before .loop .inv .1)
+    (search needs)
 
 pub settings-bytes-spec : {M : Type 1} → statement M
 settings-bytes-spec =

@@ -12,7 +12,10 @@ put-lines-requires : tie.Need-put-lines-requires
 put-lines-requires c κs = search needs
 
 returns : tie.Need-returns
-returns c = (as-text _ _ _ (c .before .put-lines .ensures), omega (arith, same-room (c .before .put-lines .ensures), c .before .put-lines .ensures .within))
+returns c = (
+  as-text _ _ _ (c .before .put-lines .ensures),
+  omega (arith, same-room (c .before .put-lines .ensures), c .before .put-lines .ensures .within),
+)
 
 pub page-text-spec : {M : Type 1} → statement M
 page-text-spec = tie.close (tie.spec slice-aggregate-put-lines put-lines-requires returns)

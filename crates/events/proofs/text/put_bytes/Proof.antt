@@ -12,7 +12,8 @@ use Rattle.events.proofs.text.put_bytes.Tie as tie
 
 abbrev Inv-loop : tie.InvT-loop
 Inv-loop out₀ at row i₀ out i =
-    (i ≤ length row) × (length out ≡ length out₀) × (sets out (at + 2 * i) (hexBytes (drop i row)) ≡ sets out₀ at (hexBytes row))
+    (i ≤ length row) × (length out ≡ length out₀) ×
+    (sets out (at + 2 * i) (hexBytes (drop i row)) ≡ sets out₀ at (hexBytes row))
 
 abbrev μ-loop : tie.MeasureT-loop
 μ-loop out₀ at row i₀ out i = length row - i
@@ -63,8 +64,12 @@ loop-less c = search needs
 
 loop-again : tie.Need-loop-again Inv-loop μ-loop
 loop-again c =
-    let at-loop = c .before .before .before .before .before in
-    (search needs, search needs, bytes-step _ _ _ _ _ _ _ (c .before .before .before .before .loop-test .taken) (c .before .before .hex-digit .ensures) (c .hex-digit2 .ensures) (at-loop .loop .inv .2))
+    let at-loop = c .before .before .before .before .before in (
+      search needs,
+      search needs,
+      bytes-step _ _ _ _ _ _ _ (c .before .before .before .before .loop-test .taken)
+          (c .before .before .hex-digit .ensures) (c .hex-digit2 .ensures) (at-loop .loop .inv .2),
+    )
 
 same-length : tie.Need-same-length Inv-loop μ-loop
 same-length c = search needs

@@ -41,7 +41,8 @@ returns c =
     let tested = c₁ .before .before in
     let start = tested .before .before .before .before .before in
     let set = sym (tested .before .any-set .ensures) ∙ tested .if1 .taken in
-    line-at _ _ _ _ _ _ (line-stored _ _ _ _ _ _ (row-length _ _ (start .pre .1)) set (c₁ .put-offset .ensures) (c .before .before .put-bytes .ensures))
+    line-at _ _ _ _ _ _ (line-stored _ _ _ _ _ _ (row-length _ _ (start .pre .1)) set (c₁ .put-offset .ensures)
+    (c .before .before .put-bytes .ensures))
 
 same-length : tie.Need-same-length
 same-length c = same-room (returns c)

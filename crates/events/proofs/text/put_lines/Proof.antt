@@ -36,8 +36,12 @@ loop-less : tie.Need-loop-less Inv-loop μ-loop
 loop-less c = search needs
 
 loop-again : tie.Need-loop-again Inv-loop μ-loop
-loop-again c =
-    (search needs, search needs, lines-step _ _ _ _ _ _ _ (c .before .before .before .before .before .loop .inv .2) (c .before .before .put-line .ensures))
+loop-again c = (
+  search needs,
+  search needs,
+  lines-step _ _ _ _ _ _ _ (c .before .before .before .before .before .loop .inv .2)
+      (c .before .before .put-line .ensures),
+)
 
 same-length : tie.Need-same-length Inv-loop μ-loop
 same-length c = search needs

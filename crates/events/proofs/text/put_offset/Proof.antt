@@ -57,7 +57,8 @@ same-length c = search needs
 returns : tie.Need-returns
 returns c =
     let start = c .before .before .before .before in
-    offset-run (start .args .out .now) (start .args .at) (start .args .offset) _ _ _ (c .before .before .hex-digit .ensures) (c .before .hex-digit2 .ensures) (c .hex-digit3 .ensures)
+    offset-run (start .args .out .now) (start .args .at) (start .args .offset) _ _ _
+    (c .before .before .hex-digit .ensures) (c .before .hex-digit2 .ensures) (c .hex-digit3 .ensures)
 
 pub put-offset-spec : {M : Type 1} → statement M
 put-offset-spec =

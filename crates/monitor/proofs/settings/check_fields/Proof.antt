@@ -1,5 +1,6 @@
 -- `check_fields`: a return for each row.
-use Rattle.monitor.proofs.settings.Laws.{flags-refused, timer-refused, order-refused, bits-refused, fields-accepted}
+use Rattle.monitor.proofs.settings.Laws.{flags-refused, timer-refused, order-refused, bits-refused}
+use Rattle.monitor.proofs.settings.Laws.{fields-accepted}
 use borrow.Author.Needs.{needs}
 use Rattle.monitor.proofs.settings.check_fields.Statement.{statement}
 use Rattle.monitor.proofs.settings.check_fields.Tie as tie

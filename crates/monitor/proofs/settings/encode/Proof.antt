@@ -1,5 +1,5 @@
 -- `encode`: its fields are the bytes.
-use mathlib.Core.Path.{_≡_, _∙_}
+use mathlib.Core.Path.{_∙_}
 use Rattle.endian.specs.Stores.{total}
 use Rattle.monitor.proofs.settings.Laws.{encodes}
 use borrow.Author.Needs.{needs}
