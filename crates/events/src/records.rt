@@ -1,7 +1,6 @@
 // One record: the call that it stands for.
 ghost use mathlib.Core.Path.{_≡_};
-ghost use mathlib.Core.Bool.{true, false, not};
-ghost use mathlib.Core.Option.{none};
+ghost use mathlib.Core.Bool.{false, not};
 ghost use Prim.Native.Nat.{_+_, _≤_};
 ghost use lib.ListN.{length, replicate};
 ghost use Rattle.endian.specs.Bytes.{anySet};
@@ -66,6 +65,7 @@ pub(crate) fn completion(r: &[u8]) -> Completion
     }
 }
 
+// What settings bytes start as.
 fn zeros() -> [u8; 4096]
     ensures { λ s. ⌜ s ≡ replicate 4096 0 ⌝ }
 {

@@ -30,7 +30,7 @@ windowsBytes active static =
     blockBytes active  -- 32-217: block of the running window
     ++ zeros 22
     ++ blockBytes static  -- 240-425: block of the last finished window
-    ++ zeros 22
+    ++ zeros 22  -- in 001 the debug log's size is among them (LMDATA-37): out of scope, zero
 
 -- Log page version and GUID, from the table: source document 001, LMDATA-35 and LMDATA-36.
 abbrev pub version : ℕ
