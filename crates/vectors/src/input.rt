@@ -22,7 +22,7 @@ fn number_in(s: &mut [u8]) -> Part {
 }
 
 // A number of so many bytes.
-pub fn number(width: usize) -> Part
+pub(crate) fn number(width: usize) -> Part
     requires { ⌜ width ≤ 4 ⌝ }
 {
     let mut bytes = [0; 4];
@@ -30,7 +30,7 @@ pub fn number(width: usize) -> Part
 }
 
 // A list, into the start of a buffer: its count, and then so many elements. Gives the bytes of the elements.
-pub fn list(width: usize, each: usize, s: &mut [u8]) -> Part
+pub(crate) fn list(width: usize, each: usize, s: &mut [u8]) -> Part
     requires { ⌜ (width ≤ 4) × (0 < each) ⌝ }
 {
     let Part::Read(count) = number(width) else {
