@@ -3,7 +3,7 @@ use mathlib.Core.Path.{_≡_, refl}
 use mathlib.Core.List.{List, [], _∷_}
 use Prim.Native.Nat.{ℕ, _+_, _<_, _≤_}
 use native.Mathlib.Numerals.{add-one}
-use borrow.Author.Tests.{eq-eqb, ne-eqb, eqb-true}
+use borrow.Author.Tests.{eqb-true}
 use mathlib.Core.Bool.{Bool, true, false, not, _||_, true≢false}
 use lib.Dec.{eqb}
 use lib.ListN.{length, getD, drop, drop-of-length-le, replicate}
@@ -11,19 +11,20 @@ use lib.Seq.{drop-cons}
 use Rattle.endian.specs.Bytes.{anySet}
 
 module _ (s : List ℕ) (i : ℕ) where
-  -- past the end no byte is set
-  pub set-none : length s ≤ i → anySet (drop i s) ≡ false
+  -- past the end no byte is left
+  pub set-all : (before : Bool) → length s ≤ i → before ≡ (before || anySet (drop i s))
   unfolding anySet
-  set-none h = rw (drop-of-length-le s h)
+  set-all true h = refl
+  set-all false h = rw (drop-of-length-le s h)
 
-  -- one byte more
-  pub set-here : i < length s → (getD s i 0 ≡ 0 → ⊥) → anySet (drop i s) ≡ true
+  -- one byte more, after some of which one may be set
+  pub set-more :
+      (before : Bool) →
+      i < length s →
+      ((before || not (eqb (getD s i 0) 0)) || anySet (drop (i + 1) s)) ≡ (before || anySet (drop i s))
   unfolding anySet
-  set-here h n = rw (drop-cons s i 0 h, ne-eqb (getD s i 0) 0 n)
-
-  pub set-later : i < length s → getD s i 0 ≡ 0 → anySet (drop i s) ≡ anySet (drop (i + 1) s)
-  unfolding anySet
-  set-later h e = rw (add-one, drop-cons s i 0 h, eq-eqb (getD s i 0) 0 e)
+  set-more true h = refl
+  set-more false h = rw (add-one, drop-cons s i 0 h)
 
 -- bytes of which none is set are zeros
 pub none-set : (s : List ℕ) → anySet s ≡ false → s ≡ replicate (length s) 0

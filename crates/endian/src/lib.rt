@@ -16,16 +16,15 @@ pub fn word(low: u8, high: u8) -> u16
     low as u16 + 256 * (high as u16)
 }
 
-// Whether a byte of the slice is not zero.
+// Whether a byte of the slice is not zero. All are looked at, so that many are compared at once.
 pub fn any_set(s: &[u8]) -> bool
     ensures { λ r. ⌜ r ≡ anySet (now (s .entry)) ⌝ }
 {
+    let mut set = false;
     let mut i = 0;
     while i < s.len() {
-        if s[i] != 0 {
-            return true;
-        }
+        set = set | (s[i] != 0);
         i += 1;
     }
-    false
+    set
 }

@@ -59,9 +59,15 @@ callOfKind kind r =
 unfoldable pub callOf : List ℕ → Option Call
 callOf r = cond (eqb (length r) 16) (callOfKind (kindOf r) r) none
 
--- a completion's record
+-- a record of a kind, with the bytes that the kind leaves unnamed zero
+abbrev pub isKind : (kind from to rest : ℕ) → List ℕ → Bool
+isKind kind from to rest r = eqb (kindOf r) kind && not (anySet (unnamed from to rest r))
+
 unfoldable pub isCompletion : List ℕ → Bool
-isCompletion r = eqb (kindOf r) 2 && not (anySet (unnamed 2 4 8 r))
+isCompletion = isKind 2 2 4 8
+
+unfoldable pub isElapsed : List ℕ → Bool
+isElapsed = isKind 3 1 4 8
 
 -- kind unknown, or an unnamed byte not zero: 11, which is checked first, before the call that it stands for is made
 unfoldable pub recordRefusal : List ℕ → Option ℕ

@@ -1,9 +1,10 @@
 // The whole records of a slice, one after the other.
 ghost use mathlib.Core.Path.{_≡_};
+ghost use mathlib.Core.Option.{some};
 ghost use Rattle.monitor.specs.Answers.{saysAnswer, unlessRefused, done};
 ghost use Rattle.monitor.specs.History.{playFrom};
 ghost use Rattle.events.specs.Records.{afterRecord, recordReply, callsBefore, historyOf, firstRefused};
-ghost use Rattle.events.specs.Records.{acceptedRecords, saysPlace, endRefusal};
+ghost use Rattle.events.specs.Records.{acceptedRecords, refusalAt, saysPlace, endRefusal};
 use crate::records;
 use monitor::Answer;
 use monitor::Monitor;
@@ -21,7 +22,17 @@ pub struct Stop {
     pub at: Place,
 }
 
-// The whole records of a slice, up to the first that is refused.
+// Stopped at a refused record.
+fn refused_at(monitor: Monitor, index: usize, number: u8) -> Stop
+    ensures monitor { λ r. ⌜ r .monitor ≡ monitor ⌝ }
+    ensures at { λ r. ⌜ saysPlace (r .at) ≡ refusalAt index (some number) ⌝ }
+{
+    let at = Place::Refused { index, number };
+    Stop { monitor, at }
+}
+
+// The whole records of a slice, up to the first that is refused. Completions and elapsed time are most of them, and
+// have a way of their own through the loop, for speed.
 pub fn run(m: Monitor, s: &[u8]) -> Stop
     ensures monitor { λ r. ⌜ r .monitor ≡ playFrom m (callsBefore (now (s .entry)) (acceptedRecords (now (s .entry)))) ⌝ }
     ensures at { λ r. ⌜ saysPlace (r .at) ≡ firstRefused (now (s .entry)) ⌝ }
@@ -42,19 +53,22 @@ pub fn run(m: Monitor, s: &[u8]) -> Stop
                 monitor = o.next;
                 i += 1;
             }
+        } else if records::is_elapsed(r) {
+            let o = records::elapsed(monitor, r);
+            monitor = o.next;
+            let answer = o.answer;
+            if let Answer::Refused(number) = answer {
+                return refused_at(monitor, i, number);
+            }
+            i += 1;
         } else {
             let o = records::other(monitor, r);
             monitor = o.next;
             let answer = o.answer;
-            match answer {
-                Answer::Refused(number) => {
-                    let at = Place::Refused { index: i, number };
-                    return Stop { monitor, at };
-                }
-                Answer::Done => {
-                    i += 1;
-                }
+            if let Answer::Refused(number) = answer {
+                return refused_at(monitor, i, number);
             }
+            i += 1;
         }
     }
     let at = Place::End;

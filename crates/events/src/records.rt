@@ -1,13 +1,13 @@
 // One record: the call that it stands for.
 ghost use mathlib.Core.Path.{_≡_};
-ghost use mathlib.Core.Bool.{false, not};
-ghost use Prim.Native.Nat.{_+_, _≤_};
+ghost use mathlib.Core.Bool.{true, false, not};
+ghost use Prim.Native.Nat.{_+_, _≤_, _<_};
 ghost use lib.ListN.{length, replicate};
 ghost use Rattle.endian.specs.Bytes.{anySet};
-ghost use Rattle.monitor.specs.Answers.{saysAnswer, unlessRefused, refused, done};
-ghost use Rattle.monitor.specs.Record.{afterSettings, settingsReply, afterElapsed};
-ghost use Rattle.monitor.specs.Refusals.{elapsedRefusal};
-ghost use Rattle.events.specs.Records.{unnamed, settingsOf, completionOf, isCompletion, afterRecord, recordReply};
+ghost use Rattle.monitor.specs.Answers.{saysAnswer, refused};
+ghost use Rattle.monitor.specs.Record.{afterSettings, settingsReply};
+ghost use Rattle.events.specs.Records.{unnamed, settingsOf, completionOf, isKind, isCompletion, isElapsed};
+ghost use Rattle.events.specs.Records.{afterRecord, recordReply};
 use monitor::Answer;
 use monitor::Completion;
 use monitor::ElapsedAnswer;
@@ -42,16 +42,32 @@ fn clear(r: &[u8], from: usize, to: usize, rest: usize) -> bool
     }
 }
 
-// Whether a record is a completion, with its unnamed bytes zero.
+// Whether a record is of a kind, with the bytes that the kind leaves unnamed zero.
+fn is_kind(r: &[u8], kind: u8, from: usize, to: usize, rest: usize) -> bool
+    requires { ⌜ (0 < length (now r)) × (from ≤ to) × (to ≤ rest) × (rest ≤ length (now r)) × (to ≤ from + 8) × (length (now r) ≤ rest + 8) ⌝ }
+    ensures { λ b. ⌜ b ≡ isKind kind from to rest (now (r .entry)) ⌝ }
+{
+    if r[0] == kind {
+        clear(r, from, to, rest)
+    } else {
+        false
+    }
+}
+
+// Whether a record is a completion.
 pub(crate) fn is_completion(r: &[u8]) -> bool
     requires { ⌜ length (now r) ≡ 16 ⌝ }
     ensures { λ b. ⌜ b ≡ isCompletion (now (r .entry)) ⌝ }
 {
-    if r[0] == COMPLETION {
-        clear(r, 2, 4, 8)
-    } else {
-        false
-    }
+    is_kind(r, COMPLETION, 2, 4, 8)
+}
+
+// Whether a record is elapsed time.
+pub(crate) fn is_elapsed(r: &[u8]) -> bool
+    requires { ⌜ length (now r) ≡ 16 ⌝ }
+    ensures { λ b. ⌜ b ≡ isElapsed (now (r .entry)) ⌝ }
+{
+    is_kind(r, ELAPSED, 1, 4, 8)
 }
 
 // What a completion's record brings.
@@ -96,12 +112,13 @@ fn configured(m: Monitor, r: &[u8]) -> Outcome
     m.configure(&s)
 }
 
-// Elapsed time, brought to the monitor.
-fn elapsed(m: Monitor, ms: u32) -> Outcome
-    ensures next { λ o. ⌜ o .next ≡ afterElapsed m ms ⌝ }
-    ensures answer { λ o. ⌜ saysAnswer (o .answer) ≡ unlessRefused (elapsedRefusal ms) done ⌝ }
+// The record's elapsed time, brought to the monitor.
+pub(crate) fn elapsed(m: Monitor, r: &[u8]) -> Outcome
+    requires { ⌜ (length (now r) ≡ 16) × (isElapsed (now r) ≡ true) ⌝ }
+    ensures next { λ o. ⌜ o .next ≡ afterRecord m (now (r .entry)) ⌝ }
+    ensures answer { λ o. ⌜ saysAnswer (o .answer) ≡ recordReply (now (r .entry)) ⌝ }
 {
-    let o = m.elapsed(ms);
+    let o = m.elapsed(endian::load(&r[4..8]) as u32);
     let next = o.next;
     let a = o.answer;
     match a {
@@ -129,9 +146,9 @@ fn unknown(m: Monitor) -> Outcome
     Outcome { next: m, answer }
 }
 
-// A record that is no completion.
+// A record that is neither a completion nor elapsed time.
 pub(crate) fn other(m: Monitor, r: &[u8]) -> Outcome
-    requires { ⌜ (length (now r) ≡ 16) × (isCompletion (now r) ≡ false) ⌝ }
+    requires { ⌜ (length (now r) ≡ 16) × (isCompletion (now r) ≡ false) × (isElapsed (now r) ≡ false) ⌝ }
     ensures next { λ o. ⌜ o .next ≡ afterRecord m (now (r .entry)) ⌝ }
     ensures answer { λ o. ⌜ saysAnswer (o .answer) ≡ recordReply (now (r .entry)) ⌝ }
 {
@@ -139,11 +156,6 @@ pub(crate) fn other(m: Monitor, r: &[u8]) -> Outcome
     match kind {
         SETTINGS => if clear(r, 14, 16, 16) {
             configured(m, r)
-        } else {
-            unknown(m)
-        },
-        ELAPSED => if clear(r, 1, 4, 8) {
-            elapsed(m, endian::load(&r[4..8]) as u32)
         } else {
             unknown(m)
         },

@@ -44,7 +44,7 @@ unfoldable pub highestBelow : List ℕ → ℕ → ℕ → Option ℕ
 highestBelow thresholds us zero = none
 highestBelow thresholds us (suc b) = cond (reaches us (getD thresholds b 0)) (some b) (highestBelow thresholds us b)
 
--- The bucket is the highest one whose threshold it reaches; A to D belong to buckets 0 to 3. Below A it is not counted.
+-- The bucket is the highest one whose threshold it reaches; A to D belong to buckets 0 to 3.
 unfoldable pub bucketOf : List ℕ → Completion → Option ℕ
 bucketOf thresholds c = highestBelow thresholds (c .latency) 4
 
@@ -54,9 +54,16 @@ counterAt (some b) (some k) = some (3 * b + k)
 counterAt (some b) none = none
 counterAt none k = none
 
+-- Below A it is not counted.
+abbrev pub reachesA : List ℕ → Completion → Bool
+reachesA thresholds c = reaches (c .latency) (getD thresholds 0 0)
+
 -- With the monitor disabled it is not counted.
 unfoldable pub counterOf : Settings → Completion → Option ℕ
-counterOf s c = cond (s .enabled) (counterAt (bucketOf (s .thresholds) c) (kindOf c)) none
+counterOf s c =
+    cond (s .enabled)
+    (cond (reachesA (s .thresholds) c) (counterAt (bucketOf (s .thresholds) c) (kindOf c)) none)
+    none
 
 -- The latency in whole ms is rounded down and held at 65,535.
 unfoldable pub millisecondsOf : Completion → ℕ

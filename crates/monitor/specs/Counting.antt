@@ -15,11 +15,14 @@ bit mask n = eqb (mask / 2 ^ n % 2) 1
 abbrev pub onceMore : ℕ → ℕ
 onceMore counter = min (counter + 1) 4294967295
 
--- The stamp is loaded if it is unset; or if the pair's mode is largest, this latency in ms is strictly larger than the
--- shown one, and the sum of elapsed time since the pair's last load is at least 100 × the minimum window; 0 means none.
+-- This latency in ms is strictly larger than the shown one, and the sum of elapsed time since the pair's last load is at
+-- least 100 × the minimum window; 0 means none.
+abbrev pub exceeds : (latency since ms minimum : ℕ) → Bool
+exceeds latency since ms minimum = ltb latency ms && leb (100 * minimum) since
+
+-- The stamp is loaded if it is unset; or if the pair's mode is largest, and the latency exceeds the shown one.
 unfoldable pub loads : (stamp latency since ms : ℕ) (largest : Bool) (minimum : ℕ) → Bool
-loads stamp latency since ms largest minimum =
-    eqb stamp unset || (largest && (ltb latency ms && leb (100 * minimum) since))
+loads stamp latency since ms largest minimum = eqb stamp unset || (largest && exceeds latency since ms minimum)
 
 -- the window after a completion for counter n. Loading sets the stamp to the clock, the shown latency to this latency in
 -- ms, and the mark to 1 if the clock is host-set, else 0.

@@ -68,7 +68,7 @@ settingsReply s = unlessRefused (settingsRefusal s) done
 
 -- whether a completion of so many ms loads counter n's stamp: the sum of elapsed time since the last load is the time
 -- in the window now, less that at the load
-abbrev loadsAt : Monitor → ℕ → ℕ → Bool
+abbrev pub loadsAt : Monitor → ℕ → ℕ → Bool
 loadsAt m n ms =
     loads (getD (m .«active_window» .stamps) n 0) (getD (m .«active_window» .latencies) n 0)
     (inWindow (m .timer) (m .partial) - getD (m .loaded) n 0)

@@ -7,10 +7,11 @@ ghost use Rattle.monitor.specs.Commands.{saysKind, saysBucket, saysCount
 use logpage::Settings;
 
 // What a completion brings.
+#[repr(C)]
 pub struct Completion {
-    pub opcode: u8,
     // In microseconds.
     pub latency: u32,
+    pub opcode: u8,
 }
 
 // Read, Write and Deallocate have counters.
@@ -30,11 +31,11 @@ pub enum Bucket {
 // There are twelve counters; this is the number of none of them.
 pub const NOT_COUNTED: u16 = 12;
 
-// Whether a latency reaches a threshold, whose byte v means v + 1 increments of 5 ms.
+// Whether a latency reaches a threshold, whose byte v means 5 x (v + 1) ms.
 fn reaches(latency: u32, threshold: u8) -> bool
     ensures { λ r. ⌜ r ≡ reaches latency threshold ⌝ }
 {
-    (threshold as u32) < latency / 5000
+    5000 * (threshold as u32 + 1) <= latency
 }
 
 // The number of the counter of a bucket and a kind.
@@ -90,15 +91,20 @@ impl Completion {
         if ms < 65535 { ms as u16 } else { 65535 }
     }
 
-    // The counter that the completion counts for, or NOT_COUNTED.
+    // The counter that the completion counts for, or NOT_COUNTED. Most completions are below threshold A, so that is
+    // asked first.
     pub fn counter(self, s: Settings) -> u16
         ensures { λ r. ⌜ saysCounter r ≡ counterOf s self ⌝ }
     {
         if s.enabled {
             let thresholds = s.thresholds;
-            match self.bucket(thresholds) {
-                Bucket::At(b) => counter_at(b, self.kind()),
-                Bucket::Below => NOT_COUNTED,
+            if reaches(self.latency, thresholds[0]) {
+                match self.bucket(thresholds) {
+                    Bucket::At(b) => counter_at(b, self.kind()),
+                    Bucket::Below => NOT_COUNTED,
+                }
+            } else {
+                NOT_COUNTED
             }
         } else {
             NOT_COUNTED

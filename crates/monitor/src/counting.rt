@@ -3,7 +3,7 @@ ghost use mathlib.Core.Path.{_≡_};
 ghost use mathlib.Core.Bool.{cond};
 ghost use Prim.Native.Nat.{_-_, _^_, _<_};
 ghost use lib.ListN.{getD, set};
-ghost use Rattle.monitor.specs.Counting.{bit, onceMore, loads, triggers, debugLog};
+ghost use Rattle.monitor.specs.Counting.{bit, onceMore, exceeds, triggers, debugLog};
 use logpage::DebugLog;
 use logpage::UNSET;
 
@@ -61,28 +61,13 @@ fn since(loaded: u64, now: u64) -> u64
     if loaded <= now { now - loaded } else { 0 }
 }
 
-// Whether a completion of `ms` loads a stamp: it is unset; or in mode largest the latency is larger than the one
-// measured, and at least the minimum window has passed since the last load. `loaded` and `now` are times in the active
-// window.
-pub(crate) fn loads(
-    stamp: u64,
-    latency: u16,
-    loaded: u64,
-    ms: u16,
-    largest: bool,
-    minimum: u8,
-    now: u64,
-) -> bool
-    ensures { λ r. ⌜ r ≡ loads stamp latency (now - loaded) ms largest minimum ⌝ }
+// Whether a latency of `ms` loads a stamp that is set, in mode largest: it is larger than the one measured, and at least
+// the minimum window has passed since the last load. `loaded` and `now` are times in the active window.
+pub(crate) fn exceeds(latency: u16, loaded: u64, ms: u16, minimum: u8, now: u64) -> bool
+    ensures { λ r. ⌜ r ≡ exceeds latency (now - loaded) ms minimum ⌝ }
 {
-    if stamp == UNSET {
-        true
-    } else if largest {
-        if latency < ms {
-            100 * (minimum as u64) <= since(loaded, now)
-        } else {
-            false
-        }
+    if latency < ms {
+        100 * (minimum as u64) <= since(loaded, now)
     } else {
         false
     }
@@ -121,6 +106,11 @@ pub(crate) fn logged(
             units: host,
         }
     } else {
-        held
+        DebugLog {
+            stamp: held.stamp,
+            latency: held.latency,
+            source: held.source,
+            units: held.units,
+        }
     }
 }

@@ -1,8 +1,9 @@
 // The monitor's record, and the calls that take it and hand back the next one with their answer.
 ghost use mathlib.Core.Path.{_≡_};
+ghost use Prim.Native.Nat.{_<_};
 ghost use Rattle.monitor.specs.Answers.{done, saysAnswer, saysCompletion, saysElapsed};
 ghost use Rattle.monitor.specs.Record.{newMonitor, afterSettings, settingsReply, afterCompletion, completionReply};
-ghost use Rattle.monitor.specs.Record.{afterElapsed, elapsedReply, afterClock, clockReply, afterPowerUp};
+ghost use Rattle.monitor.specs.Record.{afterElapsed, elapsedReply, afterClock, clockReply, afterPowerUp, loadsAt};
 use crate::answers::Answer;
 use crate::answers::CompletionAnswer;
 use crate::answers::ElapsedAnswer;
@@ -14,6 +15,7 @@ use crate::settings;
 use crate::timer;
 use logpage::DebugLog;
 use logpage::Settings;
+use logpage::UNSET;
 use logpage::Window;
 
 // What the firmware keeps. The order of the fields keeps calls cheap (docs/DECISIONS.md, 'Shape for speed').
@@ -106,6 +108,30 @@ impl Monitor {
         }
     }
 
+    // Whether a completion of `ms` loads counter n's stamp. In mode first the latencies and load times are not read.
+    fn loads(self, n: usize, ms: u16) -> bool
+        requires { ⌜ n < 12 ⌝ }
+        ensures { λ r. ⌜ r ≡ loadsAt self n ms ⌝ }
+    {
+        let stamps = self.active_window.stamps;
+        if stamps[n] == UNSET {
+            true
+        } else if counting::bit(self.settings.mode, n) {
+            let latencies = self.active_window.latencies;
+            let loaded = self.loaded;
+            let now = timer::in_window(self.timer, self.partial);
+            counting::exceeds(
+                latencies[n],
+                loaded[n],
+                ms,
+                self.settings.minimum_window,
+                now,
+            )
+        } else {
+            false
+        }
+    }
+
     // A completed command.
     pub fn completion(mut self, c: Completion) -> CompletionOutcome
         ensures next { λ r. ⌜ r .next ≡ afterCompletion self c ⌝ }
@@ -115,28 +141,27 @@ impl Monitor {
         if counter < NOT_COUNTED {
             let n = counter as usize;
             let ms = c.milliseconds();
-            let now = timer::in_window(self.timer, self.partial);
             // The debug log takes nothing from the counter or the stamp, so it may come first.
             let debug = counting::triggers(self.settings.trigger, n, self.debug.stamp);
             self.debug = counting::logged(debug, self.debug, n, self.clock, ms, self.host);
             let active = self.active_window.counters;
             let counters = counting::counted_at(active, counter);
-            let mut stamps = self.active_window.stamps;
-            let mut latencies = self.active_window.latencies;
-            let mut loaded = self.loaded;
-            let mode = counting::bit(self.settings.mode, n);
-            let minimum = self.settings.minimum_window;
-            if counting::loads(stamps[n], latencies[n], loaded[n], ms, mode, minimum, now) {
+            if self.loads(n, ms) {
+                let mut stamps = self.active_window.stamps;
+                let mut latencies = self.active_window.latencies;
                 let mut units = self.active_window.units;
+                let mut loaded = self.loaded;
                 stamps[n] = self.clock;
                 latencies[n] = ms;
                 units[n] = self.host;
-                loaded[n] = now;
+                loaded[n] = timer::in_window(self.timer, self.partial);
                 self.active_window = Window::of(counters, stamps, latencies, units);
                 self.loaded = loaded;
                 let answer = CompletionAnswer::Loaded { counter, debug };
                 CompletionOutcome { next: self, answer }
             } else {
+                let stamps = self.active_window.stamps;
+                let latencies = self.active_window.latencies;
                 let units = self.active_window.units;
                 self.active_window = Window::of(counters, stamps, latencies, units);
                 let answer = CompletionAnswer::Counted { counter, debug };

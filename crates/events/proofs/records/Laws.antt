@@ -23,7 +23,7 @@ use Rattle.monitor.specs.History.{Call, completion, elapsed, clock, after, play
 use Rattle.monitor.specs.Record.{afterCompletion, elapsedReply}
 use Rattle.monitor.specs.Refusals.{elapsedRefusal}
 use Rattle.events.specs.Records.{kindOf, part, unnamed, settingsOf, completionOf, elapsedOf, clockOf, callOfKind}
-use Rattle.events.specs.Records.{callOf, isCompletion}
+use Rattle.events.specs.Records.{callOf, isCompletion, isElapsed}
 use Rattle.events.specs.Records.{recordRefusal, recordReply, afterRecord}
 
 -- a part of at most eight bytes is loaded whole
@@ -143,16 +143,6 @@ module _ (r : List ℕ) (sixteen : length r ≡ 16) where
       callOf r ≡ none
   no-call k u c d e h = by-kind k e ∙ (d ∙ not-known u c h)
 
-  pub elapsed-call :
-      (ms : ℕ) →
-      ms ≡ number (take 8 (take 4 (drop 4 r))) →
-      kindOf r ≡ 3 →
-      true ≡ not (anySet (unnamed 1 4 8 r)) →
-      callOf r ≡ some (elapsed ms)
-  unfolding callOfKind elapsedOf
-  elapsed-call ms n e h =
-      rw (n, loaded (drop 4 r) 4 (omega arith)) (known-call 3 (unnamed 1 4 8 r) (elapsed (elapsedOf r)) refl e h)
-
   pub clock-call :
       (value : ℕ) →
       value ≡ number (take 8 (take 8 (drop 4 r))) →
@@ -163,44 +153,60 @@ module _ (r : List ℕ) (sixteen : length r ≡ 16) where
   clock-call value n e h =
       rw (n, loaded (drop 4 r) 8 (omega arith)) (known-call 4 (unnamed 1 4 12 r) (clock (clockOf r)) refl e h)
 
-  pub completion-call : isCompletion r ≡ true → callOf r ≡ some (completion (completionOf r))
-  unfolding callOf callOfKind isCompletion
-  completion-call h =
-      by (eqb (kindOf r) 2) refl (anySet (unnamed 2 4 8 r)) refl h
+  -- a record of a kind, with the bytes that it leaves unnamed clear
+  is-kind :
+      (k : ℕ) (u : List ℕ) →
+      (eqb (kindOf r) k && not (anySet u)) ≡ true →
+      (kindOf r ≡ k) × (true ≡ not (anySet u))
+  is-kind k u h = by (eqb (kindOf r) k) refl (not (anySet u)) h
     where
-      by :
-          (k : Bool) →
-          eqb (kindOf r) 2 ≡ k →
-          (u : Bool) →
-          anySet (unnamed 2 4 8 r) ≡ u →
-          (k && not u) ≡ true →
-          callOf r ≡ some (completion (completionOf r))
-      by true e false f h = rw (eq-eqb (length r) 16 sixteen, eqb-true (kindOf r) 2 e, f)
-      by true e true f h = cc
-      by false e u f h = cc
+      by : (e : Bool) → eqb (kindOf r) k ≡ e → (clear : Bool) → (e && clear) ≡ true → (kindOf r ≡ k) × (true ≡ clear)
+      by true e true h = (eqb-true (kindOf r) k e, refl)
+      by true e false h = (cc, cc)
+      by false e clear h = (cc, cc)
+
+  pub completion-call : isCompletion r ≡ true → callOf r ≡ some (completion (completionOf r))
+  unfolding callOfKind isCompletion
+  completion-call h =
+      let is = is-kind 2 (unnamed 2 4 8 r) h in known-call 2 (unnamed 2 4 8 r) (completion (completionOf r)) refl (is .0) (is .1)
+
+  pub elapsed-call :
+      (ms : ℕ) →
+      ms ≡ number (take 8 (take 4 (drop 4 r))) →
+      isElapsed r ≡ true →
+      callOf r ≡ some (elapsed ms)
+  unfolding callOfKind elapsedOf isElapsed
+  elapsed-call ms n h =
+      let is = is-kind 3 (unnamed 1 4 8 r) h in
+      rw (n, loaded (drop 4 r) 4 (omega arith))
+      (known-call 3 (unnamed 1 4 8 r) (elapsed (elapsedOf r)) refl (is .0) (is .1))
 
   pub unknown-kind :
       isCompletion r ≡ false →
+      isElapsed r ≡ false →
       (kindOf r ≡ 1 → ⊥) →
-      (kindOf r ≡ 3 → ⊥) →
       (kindOf r ≡ 4 → ⊥) →
       (kindOf r ≡ 5 → ⊥) →
       callOf r ≡ none
-  unfolding callOf callOfKind isCompletion
-  unknown-kind h n1 n3 n4 n5 =
+  unfolding callOf callOfKind isCompletion isElapsed
+  unknown-kind h2 h3 n1 n4 n5 =
       rw (
         eq-eqb (length r) 16 sixteen,
         ne-eqb (kindOf r) 1 n1,
-        ne-eqb (kindOf r) 3 n3,
         ne-eqb (kindOf r) 4 n4,
         ne-eqb (kindOf r) 5 n5,
       )
-      (by (eqb (kindOf r) 2) (anySet (unnamed 2 4 8 r)) (completion (completionOf r)) h)
+      (by (eqb (kindOf r) 2) (anySet (unnamed 2 4 8 r)) (completion (completionOf r)) _ h2
+      (by (eqb (kindOf r) 3) (anySet (unnamed 1 4 8 r)) (elapsed (elapsedOf r)) _ h3 refl))
     where
-      by : (k u : Bool) (c : Call) → (k && not u) ≡ false → cond k (cond u none (some c)) none ≡ none
-      by true true c h = refl
-      by true false c h = cc
-      by false u c h = refl
+      by :
+          (k u : Bool) (c : Call) (o : Option Call) →
+          (k && not u) ≡ false →
+          o ≡ none →
+          cond k (cond u none (some c)) o ≡ none
+      by true true c o h e = refl
+      by true false c o h e = cc
+      by false u c o h e = e
 
 -- a completion that counts for nothing leaves the monitor as it was
 pub passed-over :

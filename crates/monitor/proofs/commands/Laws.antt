@@ -1,30 +1,18 @@
 -- Laws of the search for a bucket, and of a counter's number.
-use mathlib.Core.Path.{_≡_, refl, sym}
+use mathlib.Core.Path.{_≡_, refl}
 use mathlib.Core.Bool.{Bool, true, false, cond}
 use mathlib.Core.List.{List}
 use mathlib.Core.Option.{Option, none, some}
-use Prim.Native.Nat.{ℕ, zero, suc, _+_, _*_, _-_, _/_, _≤_, _<_}
-use native.Mathlib.Nat.{not-suc-le-zero, le-div-iff-mul-le, div-lt-iff-lt-mul}
+use Prim.Native.Nat.{ℕ, zero, suc, _+_, _*_, _-_, _≤_, _<_}
+use native.Mathlib.Nat.{not-suc-le-zero}
 use native.Mathlib.Numerals.{sub-one}
 use native.Mathlib.Omega.{arith}
-use borrow.Author.Tests.{le-leb, lt-leb, lt-ltb, le-ltb, ltb-true, ltb-false}
-use lib.Dec.{eqb, ltb}
+use borrow.Author.Tests.{lt-ltb, le-ltb}
+use lib.Dec.{eqb}
 use lib.ListN.{getD}
 use Rattle.logpage.specs.declared.Settings.{Settings}
 use Rattle.monitor.specs.declared.commands.Completion.{Completion}
-use Rattle.monitor.specs.Commands.{highestBelow, reaches, bucketOf, kindOf, counterAt, counterOf, saysCounter}
-
--- a threshold byte v is reached where v is below the latency's increments of 5 ms
-pub in-increments : (us v : ℕ) → ltb v (us / 5000) ≡ reaches us v
-in-increments us v = by (ltb v (us / 5000)) refl
-  where
-    by : (t : Bool) → ltb v (us / 5000) ≡ t → t ≡ reaches us v
-    by true h =
-        let above = le-div-iff-mul-le {k = 5000} {x = v + 1} {y = us} (omega arith) .0 (omega (arith, ltb-true v _ h)) in
-        sym (le-leb (5000 * (v + 1)) us (omega arith))
-    by false h =
-        let below = div-lt-iff-lt-mul {k = 5000} {x = us} {y = v + 1} (omega arith) .0 (omega (arith, ltb-false v _ h)) in
-        sym (lt-leb (5000 * (v + 1)) us (omega arith))
+use Rattle.monitor.specs.Commands.{highestBelow, reaches, reachesA, bucketOf, kindOf, counterAt, counterOf, saysCounter}
 
 -- one step of the search down
 module _ (thresholds : List ℕ) (us : ℕ) where
@@ -105,7 +93,8 @@ bucket-few thresholds c b e = inside (rw e at (bucket-below thresholds (c .laten
 pub counter-below : (s : Settings) (c : Completion) (n : ℕ) → counterOf s c ≡ some n → n < 12
 unfolding counterOf bucketOf
 counter-below s c n e =
-    inside (rw e at (either (s .enabled) (at-below (bucket-below (s .thresholds) (c .latency) 4) (kind-below c)) absent))
+    let at-a-bucket = at-below (bucket-below (s .thresholds) (c .latency) 4) (kind-below c) in
+    inside (rw e at (either (s .enabled) (either (reachesA (s .thresholds) c) at-a-bucket absent) absent))
 
 -- With the monitor disabled it is not counted.
 pub counter-enabled : (s : Settings) (c : Completion) (n : ℕ) → counterOf s c ≡ some n → s .enabled ≡ true

@@ -1,7 +1,7 @@
 -- A completion makes of the record that the facts describe the one that they describe after it.
-use Prim.Native.Nat.{ℕ, _+_, _*_, _-_, _%_, _<_}
+use Prim.Native.Nat.{ℕ, _+_, _-_, _%_, _<_}
 use mathlib.Core.Path.{_≡_, refl, sym, ap, _∙_}
-use mathlib.Core.Bool.{Bool, true, false, cond, _&&_, _||_}
+use mathlib.Core.Bool.{Bool, true, false, cond, _&&_}
 use mathlib.Core.List.{List, _∷_}
 use mathlib.Core.Option.{Option, none, some}
 use native.Mathlib.Nat.{zero-add}
@@ -207,10 +207,9 @@ counted-step past g c n e =
     let all : All (Here past) (active past n) = all-active past g on n in
     let load = loads-is past c n few all in
     let decided =
-    decide (recordOf past) c n (millisecondsOf c) (enabledTime past % span past) _ _ _ _ _ (named n few ∙ sym e) few
-    refl (sym (now-is past)) refl refl refl refl (rw (now-is past) at (sym load))
+    decide (recordOf past) c n (millisecondsOf c) _ _ _ _ (named n few ∙ sym e) few refl refl refl refl (sym load)
     in
-    sym (decided .next) ∙
+    sym (rw (now-is past) at (decided .next)) ∙
     (λ i. record {
       settings = inForce past;
       timer = timerAt past;

@@ -22,7 +22,7 @@ use Rattle.monitor.specs.Timer.{grown, ticked, inWindow}
 use Rattle.monitor.proofs.settings.Laws.{refused-by}
 use Rattle.monitor.proofs.commands.Laws.{named, unnamed}
 use Rattle.monitor.specs.Record.{noLoads, afterSettings, settingsReply, afterCompletion, completionReply}
-use Rattle.monitor.specs.Record.{afterElapsed, elapsedReply}
+use Rattle.monitor.specs.Record.{afterElapsed, elapsedReply, loadsAt}
 
 -- settings that are turned away
 pub settings-refused :
@@ -68,15 +68,15 @@ unfolding afterCompletion completionReply
 not-counted m c n says h = let none-at = sym says ∙ unnamed n h in (rw none-at, rw none-at)
 
 -- what a counted completion writes, by whether it loads the stamp
-abbrev pub recorded : Monitor → (n ms now : ℕ) (log : DebugLog) (counters : List ℕ) (load : Bool) → Monitor
-recorded m n ms now log counters load =
+abbrev pub recorded : Monitor → (n ms : ℕ) (log : DebugLog) (counters : List ℕ) (load : Bool) → Monitor
+recorded m n ms log counters load =
     record {
       settings = m .settings;
       timer = m .timer;
       host = m .host;
       partial = m .partial;
       clock = m .clock;
-      loaded = cond load (set (m .loaded) n now) (m .loaded);
+      loaded = cond load (set (m .loaded) n (inWindow (m .timer) (m .partial))) (m .loaded);
       debug = log;
       «static_window» = m .«static_window»;
       «active_window» =
@@ -87,30 +87,26 @@ recorded m n ms now log counters load =
     }
 
 -- what is known once it is decided whether the stamp is loaded
-pub record Decided (m : Monitor) (c : Completion) (n ms now : ℕ) (log : DebugLog) (counters : List ℕ) (debug load : Bool) : Type 0 where
-  pub next : recorded m n ms now log counters load ≡ afterCompletion m c
+pub record Decided (m : Monitor) (c : Completion) (n ms : ℕ) (log : DebugLog) (counters : List ℕ) (debug load : Bool) : Type 0 where
+  pub next : recorded m n ms log counters load ≡ afterCompletion m c
   pub reply : counted n load debug ≡ completionReply m c
 
 pub decide :
-    (m : Monitor) (c : Completion) (n ms now : ℕ) (log : DebugLog) (counters : List ℕ) (debug largest load : Bool) →
+    (m : Monitor) (c : Completion) (n ms : ℕ) (log : DebugLog) (counters : List ℕ) (debug load : Bool) →
     saysCounter n ≡ counterOf (m .settings) c →
     n < 12 →
     ms ≡ millisecondsOf c →
-    now ≡ inWindow (m .timer) (m .partial) →
     debug ≡ triggers (bit (m .settings .trigger) n) (m .debug .stamp) →
     log ≡ cond debug (debugLog n (m .clock) ms (m .host)) (m .debug) →
     counters ≡ set (m .«active_window» .counters) n (onceMore (getD (m .«active_window» .counters) n 0)) →
-    largest ≡ bit (m .settings .mode) n →
-    load ≡
-    loads (getD (m .«active_window» .stamps) n 0) (getD (m .«active_window» .latencies) n 0) (now - getD (m .loaded) n 0) ms largest
-    (m .settings .«minimum_window») →
-    Decided m c n ms now log counters debug load
+    load ≡ loadsAt m n ms →
+    Decided m c n ms log counters debug load
 unfolding afterCompletion completionReply countedIn
-decide m c n ms now log counters debug largest load says few measured timed takes logs counts mode loading =
+decide m c n ms log counters debug load says few measured takes logs counts loading =
     let chosen : counterOf (m .settings) c ≡ some n = sym says ∙ named n few in
     record {
-      next = rw (chosen, ← measured, ← timed, ← mode, ← loading, ← takes, ← logs, ← counts);
-      reply = rw (chosen, ← measured, ← timed, ← mode, ← loading, ← takes);
+      next = rw (chosen, ← measured, ← loading, ← takes, ← logs, ← counts);
+      reply = rw (chosen, ← measured, ← loading, ← takes);
     }
 
 -- elapsed time that is accepted, by whether the window ends

@@ -81,23 +81,31 @@ loop-again-2 c =
     let made = stands-for _ _ _ _ _ call (rw (r .completion .ensures) at (c .before .completion2 .ensures .0)) refl in
     went-on _ _ _ _ (l .i) _ (l .inv) (the-record _ (l .i)) (made .0) (made .1) (search needs)
 
-other-requires : tie.Need-other-requires Inv-loop μ-loop
-other-requires c κs = (
-  sixteen _ (c .before .before .before .before .loop .i) (search needs),
-  sym (c .before .is-completion .ensures) ∙
-      c .if1 .left,
+is-elapsed-requires : tie.Need-is-elapsed-requires Inv-loop μ-loop
+is-elapsed-requires c κs = sixteen _ (c .before .before .before .before .loop .i) (search needs)
+
+elapsed-requires : tie.Need-elapsed-requires Inv-loop μ-loop
+elapsed-requires c κs = (
+  sixteen _ (c .before .before .before .before .before .before .loop .i) (search needs),
+  sym (c .before .is-elapsed .ensures) ∙ c .if3 .taken,
 )
 
 enum-known-answer : tie.Need-enum-known-answer Inv-loop μ-loop
 enum-known-answer c = search needs
 
+refused-at-requires : tie.Need-refused-at-requires Inv-loop μ-loop
+refused-at-requires c κs = search needs
+
 returns : tie.Need-returns Inv-loop μ-loop
 returns c =
-    let o = c .before .before .before .before in
-    let l = o .before .before .before .before .before .loop in
-    stopped _ _ _ _ (l .i) _ _ (l .inv) (the-record _ (l .i)) (o .other .ensures .0)
-    (sym (ap saysAnswer (c .before .answer .given .1)) ∙ o .other .ensures .1)
+    let o = c .before .before .before .before .before in
+    let l = o .before .before .before .before .before .before .before .loop in
+    let s =
+    stopped _ _ _ _ (l .i) _ _ (l .inv) (the-record _ (l .i)) (o .elapsed .ensures .0)
+    (sym (ap saysAnswer (c .before .before .answer .given .1)) ∙ o .elapsed .ensures .1)
     (search needs)
+    in
+    (c .refused-at .ensures .0 ∙ s .0, c .refused-at .ensures .1 ∙ s .1)
 
 enum-told : tie.Need-enum-told Inv-loop μ-loop
 enum-told c = search needs
@@ -111,13 +119,54 @@ loop-less-3 c = search needs
 loop-again-3 : tie.Need-loop-again-3 Inv-loop μ-loop
 loop-again-3 c =
     let o = c .before .before .before in
-    let l = o .before .before .before .before .before .loop in
-    went-on _ _ _ _ (l .i) _ (l .inv) (the-record _ (l .i)) (o .other .ensures .0)
-    (sym (ap saysAnswer (c .enum-told .given .1)) ∙ o .other .ensures .1)
+    let l = o .before .before .before .before .before .before .before .loop in
+    went-on _ _ _ _ (l .i) _ (l .inv) (the-record _ (l .i)) (o .elapsed .ensures .0)
+    (sym (ap saysAnswer (c .enum-told .given .1)) ∙ o .elapsed .ensures .1)
     (search needs)
 
+other-requires : tie.Need-other-requires Inv-loop μ-loop
+other-requires c κs = (
+  sixteen _ (c .before .before .before .before .before .before .loop .i) (search needs),
+  sym (c .before .before .before .is-completion .ensures) ∙ c .before .before .if1 .left,
+  sym (c .before .is-elapsed .ensures) ∙ c .if3 .left,
+)
+
+enum-known-answer-2 : tie.Need-enum-known-answer-2 Inv-loop μ-loop
+enum-known-answer-2 c = search needs
+
+refused-at-requires-2 : tie.Need-refused-at-requires-2 Inv-loop μ-loop
+refused-at-requires-2 c κs = search needs
+
 returns-2 : tie.Need-returns-2 Inv-loop μ-loop
-returns-2 c = ended _ _ _ (c .before .loop .i) (c .before .loop .inv) (search needs)
+returns-2 c =
+    let o = c .before .before .before .before .before in
+    let l = o .before .before .before .before .before .before .before .loop in
+    let s =
+    stopped _ _ _ _ (l .i) _ _ (l .inv) (the-record _ (l .i)) (o .other .ensures .0)
+    (sym (ap saysAnswer (c .before .before .answer2 .given .1)) ∙ o .other .ensures .1)
+    (search needs)
+    in
+    (c .refused-at2 .ensures .0 ∙ s .0, c .refused-at2 .ensures .1 ∙ s .1)
+
+enum-told-2 : tie.Need-enum-told-2 Inv-loop μ-loop
+enum-told-2 c = search needs
+
+add-i-4 : tie.Need-add-i-4 Inv-loop μ-loop
+add-i-4 c = search needs
+
+loop-less-4 : tie.Need-loop-less-4 Inv-loop μ-loop
+loop-less-4 c = search needs
+
+loop-again-4 : tie.Need-loop-again-4 Inv-loop μ-loop
+loop-again-4 c =
+    let o = c .before .before .before in
+    let l = o .before .before .before .before .before .before .before .loop in
+    went-on _ _ _ _ (l .i) _ (l .inv) (the-record _ (l .i)) (o .other .ensures .0)
+    (sym (ap saysAnswer (c .enum-told2 .given .1)) ∙ o .other .ensures .1)
+    (search needs)
+
+returns-3 : tie.Need-returns-3 Inv-loop μ-loop
+returns-3 c = ended _ _ _ (c .before .loop .i) (c .before .loop .inv) (search needs)
 
 pub run-spec : {M : Type 1} → statement M
 run-spec =
@@ -141,11 +190,21 @@ run-spec =
     add-i-2
     loop-less-2
     loop-again-2
-    other-requires
+    is-elapsed-requires
+    elapsed-requires
     enum-known-answer
+    refused-at-requires
     returns
     enum-told
     add-i-3
     loop-less-3
     loop-again-3
-    returns-2)
+    other-requires
+    enum-known-answer-2
+    refused-at-requires-2
+    returns-2
+    enum-told-2
+    add-i-4
+    loop-less-4
+    loop-again-4
+    returns-3)

@@ -1,23 +1,15 @@
--- `is_completion`: the kind, and the bytes that it leaves unnamed.
-use borrow.Author.Tests.{eq-eqb, ne-eqb}
+-- `is_completion`: its kind.
 use Rattle.events.specs.Records.{isCompletion}
 use borrow.Author.Needs.{needs}
 use Rattle.events.proofs.records.is_completion.Statement.{statement}
 use Rattle.events.proofs.records.is_completion.Tie as tie
 
-shared-slice-read-if1 : tie.Need-shared-slice-read-if1
-shared-slice-read-if1 c = search needs
-
-clear-requires : tie.Need-clear-requires
-clear-requires c κs = search needs
+is-kind-requires : tie.Need-is-kind-requires
+is-kind-requires c κs = search needs
 
 returns : tie.Need-returns
 unfolding isCompletion
-returns c = rw (eq-eqb _ _ (c .before .if1 .taken)) (c .clear .ensures)
-
-returns-2 : tie.Need-returns-2
-unfolding isCompletion
-returns-2 c = rw (ne-eqb _ _ (c .if1 .left))
+returns c = c .is-kind .ensures
 
 pub is-completion-spec : {M : Type 1} → statement M
-is-completion-spec = tie.close (tie.spec shared-slice-read-if1 clear-requires returns returns-2)
+is-completion-spec = tie.close (tie.spec is-kind-requires returns)

@@ -1,11 +1,9 @@
 -- `other`: each kind with its unnamed bytes zero, and with one of them set; no kind.
 use mathlib.Core.Path.{refl, sym, _∙_}
-use native.Mathlib.Omega.{arith}
-use Rattle.monitor.specs.History.{elapsed, powerUp}
+use Rattle.monitor.specs.History.{powerUp}
 use Rattle.monitor.specs.Record.{settingsReply, clockReply}
 use Rattle.events.specs.Records.{callOfKind}
-use Rattle.events.proofs.records.Laws.{fits, stands-for, stands-for-none, known-call, no-call, elapsed-call}
-use Rattle.events.proofs.records.Laws.{clock-call, unknown-kind}
+use Rattle.events.proofs.records.Laws.{stands-for, stands-for-none, known-call, no-call, clock-call, unknown-kind}
 use borrow.Author.Needs.{needs}
 use Rattle.events.proofs.records.other.Statement.{statement}
 use Rattle.events.proofs.records.other.Tie as tie
@@ -37,17 +35,8 @@ part-load-end c = search needs
 load-requires : tie.Need-load-requires
 load-requires c κs = search needs
 
-cast-elapsed : tie.Need-cast-elapsed
-cast-elapsed c =
-    let l = c .before .before .before .before .before in
-    omega (
-      arith,
-      fits (l .before .before .args .r .now) _ (c .load .ensures)
-          (λ k. omega (arith, l .shared-slice-known2 .given k)),
-    )
-
-elapsed-requires : tie.Need-elapsed-requires
-elapsed-requires c κs = search needs
+set-clock-requires : tie.Need-set-clock-requires
+set-clock-requires c κs = search needs
 
 unknown-requires-2 : tie.Need-unknown-requires-2
 unknown-requires-2 c κs = search needs
@@ -55,35 +44,14 @@ unknown-requires-2 c κs = search needs
 clear-requires-3 : tie.Need-clear-requires-3
 clear-requires-3 c κs = search needs
 
-sub-load-2 : tie.Need-sub-load-2
-sub-load-2 c = search needs
-
-part-load-start-2 : tie.Need-part-load-start-2
-part-load-start-2 c = search needs
-
-part-load-end-2 : tie.Need-part-load-end-2
-part-load-end-2 c = search needs
-
-load-requires-2 : tie.Need-load-requires-2
-load-requires-2 c κs = search needs
-
-set-clock-requires : tie.Need-set-clock-requires
-set-clock-requires c κs = search needs
+power-up-requires : tie.Need-power-up-requires
+power-up-requires c κs = search needs
 
 unknown-requires-3 : tie.Need-unknown-requires-3
 unknown-requires-3 c κs = search needs
 
-clear-requires-4 : tie.Need-clear-requires-4
-clear-requires-4 c κs = search needs
-
-power-up-requires : tie.Need-power-up-requires
-power-up-requires c κs = search needs
-
 unknown-requires-4 : tie.Need-unknown-requires-4
 unknown-requires-4 c κs = search needs
-
-unknown-requires-5 : tie.Need-unknown-requires-5
-unknown-requires-5 c κs = search needs
 
 returns : tie.Need-returns
 unfolding callOfKind settingsReply
@@ -106,71 +74,52 @@ returns-2 c =
     (c .unknown .ensures .1)
 
 returns-3 : tie.Need-returns-3
+unfolding clockReply
 returns-3 c =
     let l = c .before .before .before .before .before in
     stands-for _ _ _ _ _
-    (elapsed-call _ (l .before .before .before .pre .0) _ (c .before .load .ensures) (l .match .keys2)
+    (clock-call _ (l .before .before .before .pre .0) _ (c .before .load .ensures) (l .match .keys2)
     (sym (c .before .before .before .if2 .taken) ∙ c .before .before .before .before .clear2 .ensures))
-    (c .elapsed .ensures .0)
-    (c .elapsed .ensures .1)
+    (c .set-clock .ensures .0)
+    (c .set-clock .ensures .1)
 
 returns-4 : tie.Need-returns-4
 unfolding callOfKind
 returns-4 c =
     let l = c .before .before .before in
     stands-for-none _ _ _ _
-    (no-call _ (l .before .before .before .pre .0) 3 _ _ refl (l .match .keys2)
+    (no-call _ (l .before .before .before .pre .0) 4 _ _ refl (l .match .keys2)
     (sym (c .before .if2 .left) ∙ c .before .before .clear2 .ensures))
     (c .unknown2 .ensures .0)
     (c .unknown2 .ensures .1)
 
 returns-5 : tie.Need-returns-5
-unfolding clockReply
+unfolding callOfKind
 returns-5 c =
-    let l = c .before .before .before .before .before in
-    stands-for _ _ _ _ _
-    (clock-call _ (l .before .before .before .pre .0) _ (c .before .load2 .ensures) (l .match .keys3)
-    (sym (c .before .before .before .if3 .taken) ∙ c .before .before .before .before .clear3 .ensures))
-    (c .set-clock .ensures .0)
-    (c .set-clock .ensures .1)
+    let l = c .before .before .before in
+    stands-for _ _ _ _ powerUp
+    (known-call _ (l .before .before .before .pre .0) 5 _ _ refl (l .match .keys3)
+    (sym (c .before .if3 .taken) ∙ c .before .before .clear3 .ensures))
+    (c .power-up .ensures .0)
+    (c .power-up .ensures .1)
 
 returns-6 : tie.Need-returns-6
 unfolding callOfKind
 returns-6 c =
     let l = c .before .before .before in
     stands-for-none _ _ _ _
-    (no-call _ (l .before .before .before .pre .0) 4 _ _ refl (l .match .keys3)
+    (no-call _ (l .before .before .before .pre .0) 5 _ _ refl (l .match .keys3)
     (sym (c .before .if3 .left) ∙ c .before .before .clear3 .ensures))
     (c .unknown3 .ensures .0)
     (c .unknown3 .ensures .1)
 
 returns-7 : tie.Need-returns-7
-unfolding callOfKind
 returns-7 c =
-    let l = c .before .before .before in
-    stands-for _ _ _ _ powerUp
-    (known-call _ (l .before .before .before .pre .0) 5 _ _ refl (l .match .keys4)
-    (sym (c .before .if4 .taken) ∙ c .before .before .clear4 .ensures))
-    (c .power-up .ensures .0)
-    (c .power-up .ensures .1)
-
-returns-8 : tie.Need-returns-8
-unfolding callOfKind
-returns-8 c =
-    let l = c .before .before .before in
-    stands-for-none _ _ _ _
-    (no-call _ (l .before .before .before .pre .0) 5 _ _ refl (l .match .keys4)
-    (sym (c .before .if4 .left) ∙ c .before .before .clear4 .ensures))
-    (c .unknown4 .ensures .0)
-    (c .unknown4 .ensures .1)
-
-returns-9 : tie.Need-returns-9
-returns-9 c =
     let p = c .before .before .before .before .pre in
     let n = c .before .match .rest in
-    stands-for-none _ _ _ _ (unknown-kind _ (p .0) (p .1) (n .0 .0 .0 .1) (n .0 .0 .1) (n .0 .1) (n .1))
-    (c .unknown5 .ensures .0)
-    (c .unknown5 .ensures .1)
+    stands-for-none _ _ _ _ (unknown-kind _ (p .0) (p .1) (p .2) (n .0 .0 .1) (n .0 .1) (n .1))
+    (c .unknown4 .ensures .0)
+    (c .unknown4 .ensures .1)
 
 pub other-spec : {M : Type 1} → statement M
 other-spec =
@@ -185,26 +134,16 @@ other-spec =
     part-load-start
     part-load-end
     load-requires
-    cast-elapsed
-    elapsed-requires
+    set-clock-requires
     unknown-requires-2
     clear-requires-3
-    sub-load-2
-    part-load-start-2
-    part-load-end-2
-    load-requires-2
-    set-clock-requires
-    unknown-requires-3
-    clear-requires-4
     power-up-requires
+    unknown-requires-3
     unknown-requires-4
-    unknown-requires-5
     returns
     returns-2
     returns-3
     returns-4
     returns-5
     returns-6
-    returns-7
-    returns-8
-    returns-9)
+    returns-7)

@@ -1,10 +1,16 @@
--- `Completion::counter`: in a bucket, below the buckets, and disabled.
+-- `Completion::counter`: in a bucket, below the buckets, below threshold A, and disabled.
 use mathlib.Core.Path.{sym, ap, _∙_}
 use Rattle.monitor.specs.Commands.{counterOf, saysBucket}
 use Rattle.monitor.proofs.commands.Laws.{bucket-few}
 use borrow.Author.Needs.{needs}
 use Rattle.monitor.proofs.commands.Completion.counter.Statement.{statement}
 use Rattle.monitor.proofs.commands.Completion.counter.Tie as tie
+
+array-read-reaches : tie.Need-array-read-reaches
+array-read-reaches c = search needs
+
+reaches-requires : tie.Need-reaches-requires
+reaches-requires c κs = search needs
 
 bucket-requires : tie.Need-bucket-requires
 bucket-requires c κs = search needs
@@ -25,24 +31,32 @@ enum-told c = search needs
 returns : tie.Need-returns
 unfolding counterOf
 returns c =
+    let past-a = c .before .before .before .before .before .before in
     let in-bucket = sym (c .before .before .before .before .before .bucket .ensures) ∙ ap saysBucket (c .before .before .before .b .given .1) in
-    rw (c .before .before .before .before .before .before .before .if1 .taken, in-bucket, ← c .before .kind .ensures)
+    rw (past-a .before .before .before .if1 .taken, sym (past-a .before .reaches .ensures) ∙ past-a .if2 .taken, in-bucket, ← c .before .kind .ensures)
     (c .counter-at .ensures)
 
 returns-2 : tie.Need-returns-2
 unfolding counterOf
 returns-2 c =
+    let past-a = c .before .before .before in
     let below = sym (c .before .before .bucket .ensures) ∙ ap saysBucket (c .enum-told .given .1) in
-    rw (c .before .before .before .before .if1 .taken, below)
+    rw (past-a .before .before .before .if1 .taken, sym (past-a .before .reaches .ensures) ∙ past-a .if2 .taken, below)
 
 returns-3 : tie.Need-returns-3
 unfolding counterOf
-returns-3 c = rw (c .if1 .left)
+returns-3 c = rw (c .before .before .before .if1 .taken, sym (c .before .reaches .ensures) ∙ c .if2 .left)
+
+returns-4 : tie.Need-returns-4
+unfolding counterOf
+returns-4 c = rw (c .if1 .left)
 
 pub counter-spec : {M : Type 1} → statement M
 counter-spec =
     tie.close
     (tie.spec
+    array-read-reaches
+    reaches-requires
     bucket-requires
     enum-known-b
     kind-requires
@@ -50,4 +64,5 @@ counter-spec =
     enum-told
     returns
     returns-2
-    returns-3)
+    returns-3
+    returns-4)

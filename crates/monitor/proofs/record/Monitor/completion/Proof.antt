@@ -15,9 +15,6 @@ cast-n c = search needs
 milliseconds-requires : tie.Need-milliseconds-requires
 milliseconds-requires c κs = search needs
 
-in-window-requires : tie.Need-in-window-requires
-in-window-requires c κs = search needs
-
 triggers-requires : tie.Need-triggers-requires
 triggers-requires c κs = search needs
 
@@ -26,27 +23,6 @@ logged-requires c κs = search needs
 
 counted-at-requires : tie.Need-counted-at-requires
 counted-at-requires c κs = search needs
-
-bit-requires : tie.Need-bit-requires
-bit-requires c κs = search needs
-
-mul-loads : tie.Need-mul-loads
-mul-loads c = search needs
-
-array-read-loads : tie.Need-array-read-loads
-array-read-loads c = search needs
-
-mul-loads-2 : tie.Need-mul-loads-2
-mul-loads-2 c = search needs
-
-array-read-loads-2 : tie.Need-array-read-loads-2
-array-read-loads-2 c = search needs
-
-mul-loads-3 : tie.Need-mul-loads-3
-mul-loads-3 c = search needs
-
-array-read-loads-3 : tie.Need-array-read-loads-3
-array-read-loads-3 c = search needs
 
 loads-requires : tie.Need-loads-requires
 loads-requires c κs = search needs
@@ -66,6 +42,9 @@ array-write-latencies c = search needs
 array-write-units : tie.Need-array-write-units
 array-write-units c = search needs
 
+in-window-requires : tie.Need-in-window-requires
+in-window-requires c κs = search needs
+
 mul-loaded : tie.Need-mul-loaded
 mul-loaded c = search needs
 
@@ -80,13 +59,13 @@ of-requires-2 c κs = search needs
 
 -- the places on the way to the decision, the latest first
 abbrev at-counted : tie.After-loads → tie.After-counted-at
-at-counted c = c .before .before .before .before .before
+at-counted c = c .before
 
 abbrev at-triggers : tie.After-loads → tie.After-triggers
 at-triggers c = at-counted c .before .before .before
 
 abbrev at-milliseconds : tie.After-loads → tie.After-milliseconds
-at-milliseconds c = at-triggers c .before .before
+at-milliseconds c = at-triggers c .before
 
 abbrev at-counter : tie.After-loads → tie.After-counter
 at-counter c = at-milliseconds c .before .before
@@ -97,29 +76,28 @@ decided :
     c .loads .result ≡ load →
     Decided (at-counter c .before .args .self) (at-counter c .before .args .c) (at-counter c .counter .result)
     (at-milliseconds c .milliseconds .result)
-    (at-triggers c .before .in-window .result)
     (at-counted c .before .before .logged .result)
     (at-counted c .counted-at .result)
     (at-triggers c .triggers .result)
     load
 decided c load e =
-    decide _ _ _ _ _ _ _ _ _ _ (at-counter c .counter .ensures) (at-milliseconds c .before .if1 .taken)
+    decide _ _ _ _ _ _ _ _ (at-counter c .counter .ensures) (at-milliseconds c .before .if1 .taken)
     (at-milliseconds c .milliseconds .ensures)
-    (at-triggers c .before .in-window .ensures)
     (at-triggers c .triggers .ensures)
     (at-counted c .before .before .logged .ensures)
     (at-counted c .counted-at .ensures)
-    (c .before .bit .ensures)
     (sym e ∙ c .loads .ensures)
 
 returns : tie.Need-returns
 returns c =
-    let d = decided (c .before .before .before) true (c .before .before .if2 .taken) in
-    (rw (c .of .ensures) (d .next), d .reply)
+    let then = c .before .before .before .before .before .before in
+    let d = decided (then .before) true (then .if2 .taken) in
+    (rw (c .of .ensures, c .before .in-window .ensures) (d .next), d .reply)
 
 returns-2 : tie.Need-returns-2
 returns-2 c =
-    let d = decided (c .before .before .before) false (c .before .before .if2 .left) in
+    let else = c .before .before .before .before in
+    let d = decided (else .before) false (else .if2 .left) in
     (rw (c .of2 .ensures) (d .next), d .reply)
 
 returns-3 : tie.Need-returns-3
@@ -132,23 +110,16 @@ completion-spec =
     counter-requires
     cast-n
     milliseconds-requires
-    in-window-requires
     triggers-requires
     logged-requires
     counted-at-requires
-    bit-requires
-    mul-loads
-    array-read-loads
-    mul-loads-2
-    array-read-loads-2
-    mul-loads-3
-    array-read-loads-3
     loads-requires
     mul-stamps
     array-write-stamps
     mul-latencies
     array-write-latencies
     array-write-units
+    in-window-requires
     mul-loaded
     array-write-loaded
     of-requires

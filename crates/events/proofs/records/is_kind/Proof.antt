@@ -1,0 +1,20 @@
+-- `is_kind`: the kind, and the bytes that it leaves unnamed.
+use borrow.Author.Tests.{eq-eqb, ne-eqb}
+use borrow.Author.Needs.{needs}
+use Rattle.events.proofs.records.is_kind.Statement.{statement}
+use Rattle.events.proofs.records.is_kind.Tie as tie
+
+shared-slice-read-if1 : tie.Need-shared-slice-read-if1
+shared-slice-read-if1 c = search needs
+
+clear-requires : tie.Need-clear-requires
+clear-requires c κs = search needs
+
+returns : tie.Need-returns
+returns c = rw (eq-eqb _ _ (c .before .if1 .taken)) (c .clear .ensures)
+
+returns-2 : tie.Need-returns-2
+returns-2 c = rw (ne-eqb _ _ (c .if1 .left))
+
+pub is-kind-spec : {M : Type 1} → statement M
+is-kind-spec = tie.close (tie.spec shared-slice-read-if1 clear-requires returns returns-2)
