@@ -1,0 +1,33 @@
+-- `replies::completion`: each case of the answer gives the numbers of the reply that it says.
+use mathlib.Core.Path.{sym, ap}
+use borrow.Author.Needs.{needs}
+use Rattle.monitor.specs.Answers.{saysCompletion}
+use Rattle.monitor.specs.declared.answers.CompletionAnswer.{CompletionAnswer}
+use Rattle.device.specs.declared.replies.CompletionReply.{CompletionReply}
+use Rattle.device.specs.Replies.{completionIn}
+use Rattle.device.proofs.replies.completion.Statement.{statement}
+use Rattle.device.proofs.replies.completion.Tie as tie
+
+enum-told : tie.Need-enum-told
+enum-told c = search needs
+
+enum-known-a : tie.Need-enum-known-a
+enum-known-a c = search needs
+
+enum-known-a-2 : tie.Need-enum-known-a-2
+enum-known-a-2 c = search needs
+
+abbrev reply : CompletionAnswer → CompletionReply
+reply a = completionIn (saysCompletion a)
+
+returns : tie.Need-returns
+returns c = sym (ap reply (c .enum-told .given .1))
+
+returns-2 : tie.Need-returns-2
+returns-2 c = sym (ap reply (c .before .a .given .1))
+
+returns-3 : tie.Need-returns-3
+returns-3 c = sym (ap reply (c .before .a2 .given .1))
+
+pub completion-spec : {M : Type 1} → statement M
+completion-spec = tie.close (tie.spec enum-told enum-known-a enum-known-a-2 returns returns-2 returns-3)

@@ -1,0 +1,200 @@
+/*
+ * The latency monitor: a drive's slow commands in latency buckets, and log page C3h of the OCP Datacenter NVMe SSD
+ * Specification 2.5.
+ *
+ * Firmware keeps one record for each drive and lends it for each call. There is no allocation and no state but the
+ * record, so calls on distinct records may run at the same time. Calls on one record must not, and no two pointers of
+ * a call may overlap.
+ *
+ * A call that is turned away answers with its refusal number and leaves record and buffer as they were. No call asks
+ * anything else of its caller: any number and any length may be passed.
+ */
+#ifndef LATENCY_MONITOR_H
+#define LATENCY_MONITOR_H
+
+#include <stdbool.h>
+#include <stddef.h>
+#include <stdint.h>
+
+#ifdef __cplusplus
+extern "C" {
+#define LATENCY_MONITOR_ASSERT static_assert
+#else
+#define LATENCY_MONITOR_ASSERT _Static_assert
+#endif
+
+/* Counters stand by number, 3 x bucket + kind: buckets 0 to 3 have thresholds A to D, and the kind is Read (0), Write
+ * (1) or Deallocate (2). */
+#define LATENCY_MONITOR_COUNTERS 12
+
+/* A latency stamp that is not set. */
+#define LATENCY_MONITOR_UNSET UINT64_C(0xffffffffffffffff)
+
+/* Lengths, in bytes. */
+#define LATENCY_MONITOR_SETTINGS_LENGTH 4096
+#define LATENCY_MONITOR_PAGE_LENGTH 512
+
+/* Why a call is turned away; the first that applies is the answer. */
+enum latency_monitor_refusal {
+    LATENCY_MONITOR_ACCEPTED = 0,
+    LATENCY_MONITOR_SETTINGS_LENGTH_WRONG = 1, /* settings are not 4,096 bytes */
+    LATENCY_MONITOR_RESERVED_BYTE = 2,         /* a settings byte from 13 on is not zero */
+    LATENCY_MONITOR_FLAG_ABOVE_ONE = 3,        /* discard or enable is above 1 */
+    LATENCY_MONITOR_NO_TIMER_THRESHOLD = 4,    /* the timer threshold is 0 */
+    LATENCY_MONITOR_THRESHOLD_ORDER = 5,       /* A is above B, B above C, or C above D */
+    LATENCY_MONITOR_RESERVED_BIT = 6,          /* bit 12 to 15 of mode or trigger is set */
+    LATENCY_MONITOR_ELAPSED_TIME = 7,          /* elapsed time is above 300,000 ms */
+    LATENCY_MONITOR_CLOCK_VALUE = 8,           /* the clock is 2^48 ms or more */
+    LATENCY_MONITOR_PAGE_LENGTH_WRONG = 9,     /* the page's buffer is not 512 bytes */
+    LATENCY_MONITOR_SETTINGS_BACK_LENGTH = 10  /* the settings' buffer is not 4,096 bytes */
+};
+
+/* The settings in force. */
+struct latency_monitor_settings {
+    uint16_t timer_threshold; /* in increments of five minutes */
+    uint16_t mode;            /* bit n: counter n in mode largest */
+    uint16_t trigger;         /* bit n: counter n triggers a debug log */
+    uint8_t thresholds[4];    /* A to D: byte v means 5 x (v + 1) ms */
+    uint8_t minimum_window;   /* in units of 100 ms */
+    bool enabled;
+};
+
+/* A window, by counter number. */
+struct latency_monitor_window {
+    uint32_t counters[LATENCY_MONITOR_COUNTERS];
+    uint64_t stamps[LATENCY_MONITOR_COUNTERS];
+    uint16_t latencies[LATENCY_MONITOR_COUNTERS]; /* measured latencies, in ms */
+    bool units[LATENCY_MONITOR_COUNTERS];         /* stamp units: whether the host had set the clock */
+};
+
+/* The debug log; none is held while its stamp is LATENCY_MONITOR_UNSET. */
+struct latency_monitor_debug_log {
+    uint64_t stamp;
+    uint16_t latency;
+    uint16_t source; /* the counter, as one set bit */
+    bool units;
+};
+
+/* The record. Its fields may be read between calls; only the calls change it. The bytes between fields mean nothing,
+ * and may differ in records whose fields are equal. */
+struct latency_monitor {
+    struct latency_monitor_settings settings;
+    uint16_t timer;   /* Active Bucket Timer, in increments of five minutes */
+    bool host;        /* whether the host set the clock */
+    uint32_t partial; /* time since the timer's last increment, in ms */
+    uint64_t clock;   /* in ms */
+    uint64_t loaded[LATENCY_MONITOR_COUNTERS]; /* time in the active window at the stamp's last load, in ms */
+    struct latency_monitor_debug_log debug;
+    struct latency_monitor_window static_window;
+    struct latency_monitor_window active_window;
+};
+
+/* A completed command. */
+struct latency_monitor_command {
+    uint32_t latency; /* in microseconds */
+    uint8_t opcode;
+};
+
+/* The answer to a completion. */
+struct latency_monitor_completion_answer {
+    uint16_t counter; /* 0 to 11; 0 if not counted */
+    bool counted;
+    bool loaded; /* whether the counter's latency stamp was loaded */
+    bool debug;  /* whether a debug log was taken */
+};
+
+/* The answer to elapsed time. */
+struct latency_monitor_elapsed_answer {
+    uint8_t refusal; /* enum latency_monitor_refusal */
+    bool ended;      /* whether the active window ended, and is the static one now */
+};
+
+/*
+ * Makes a record a new monitor's: disabled, settings zero, clock 0, both windows empty. The storage may be zeroed, as
+ * static storage is, or hold a record.
+ */
+void latency_monitor_new(struct latency_monitor *monitor);
+
+/* Accepts settings, 4,096 bytes, or turns them away by 1 to 6. */
+uint8_t latency_monitor_configure(struct latency_monitor *monitor, const uint8_t *settings, size_t length);
+
+/* Takes a completed command; it is never turned away. */
+struct latency_monitor_completion_answer latency_monitor_completion(
+    struct latency_monitor *monitor, struct latency_monitor_command command);
+
+/* Lets time pass, at most 300,000 ms a call; turned away by 7. */
+struct latency_monitor_elapsed_answer latency_monitor_elapsed(struct latency_monitor *monitor, uint32_t ms);
+
+/* The host sets the clock, in ms, below 2^48; turned away by 8. */
+uint8_t latency_monitor_set_clock(struct latency_monitor *monitor, uint64_t ms);
+
+/* The drive powered up: the clock is 0, and not the host's. Never turned away. */
+uint8_t latency_monitor_power_up(struct latency_monitor *monitor);
+
+/* Writes log page C3h, 512 bytes; turned away by 9. */
+uint8_t latency_monitor_page(const struct latency_monitor *monitor, uint8_t *page, size_t length);
+
+/* Writes the settings in force, 4,096 bytes, the discard byte as zero; turned away by 10. */
+uint8_t latency_monitor_settings_back(const struct latency_monitor *monitor, uint8_t *settings, size_t length);
+
+/* The layout that the library was compiled with. */
+#define LATENCY_MONITOR_SIZE(type, size) LATENCY_MONITOR_ASSERT(sizeof(struct type) == (size), #type)
+#define LATENCY_MONITOR_AT(type, field, offset) \
+    LATENCY_MONITOR_ASSERT(offsetof(struct type, field) == (offset), #type "." #field)
+
+LATENCY_MONITOR_ASSERT(sizeof(bool) == 1, "bool is one byte");
+
+LATENCY_MONITOR_SIZE(latency_monitor_settings, 12);
+LATENCY_MONITOR_AT(latency_monitor_settings, timer_threshold, 0);
+LATENCY_MONITOR_AT(latency_monitor_settings, mode, 2);
+LATENCY_MONITOR_AT(latency_monitor_settings, trigger, 4);
+LATENCY_MONITOR_AT(latency_monitor_settings, thresholds, 6);
+LATENCY_MONITOR_AT(latency_monitor_settings, minimum_window, 10);
+LATENCY_MONITOR_AT(latency_monitor_settings, enabled, 11);
+
+LATENCY_MONITOR_SIZE(latency_monitor_window, 184);
+LATENCY_MONITOR_AT(latency_monitor_window, counters, 0);
+LATENCY_MONITOR_AT(latency_monitor_window, stamps, 48);
+LATENCY_MONITOR_AT(latency_monitor_window, latencies, 144);
+LATENCY_MONITOR_AT(latency_monitor_window, units, 168);
+
+LATENCY_MONITOR_SIZE(latency_monitor_debug_log, 16);
+LATENCY_MONITOR_AT(latency_monitor_debug_log, stamp, 0);
+LATENCY_MONITOR_AT(latency_monitor_debug_log, latency, 8);
+LATENCY_MONITOR_AT(latency_monitor_debug_log, source, 10);
+LATENCY_MONITOR_AT(latency_monitor_debug_log, units, 12);
+
+LATENCY_MONITOR_SIZE(latency_monitor, 512);
+LATENCY_MONITOR_AT(latency_monitor, settings, 0);
+LATENCY_MONITOR_AT(latency_monitor, timer, 12);
+LATENCY_MONITOR_AT(latency_monitor, host, 14);
+LATENCY_MONITOR_AT(latency_monitor, partial, 16);
+LATENCY_MONITOR_AT(latency_monitor, clock, 24);
+LATENCY_MONITOR_AT(latency_monitor, loaded, 32);
+LATENCY_MONITOR_AT(latency_monitor, debug, 128);
+LATENCY_MONITOR_AT(latency_monitor, static_window, 144);
+LATENCY_MONITOR_AT(latency_monitor, active_window, 328);
+
+LATENCY_MONITOR_SIZE(latency_monitor_command, 8);
+LATENCY_MONITOR_AT(latency_monitor_command, latency, 0);
+LATENCY_MONITOR_AT(latency_monitor_command, opcode, 4);
+
+LATENCY_MONITOR_SIZE(latency_monitor_completion_answer, 6);
+LATENCY_MONITOR_AT(latency_monitor_completion_answer, counter, 0);
+LATENCY_MONITOR_AT(latency_monitor_completion_answer, counted, 2);
+LATENCY_MONITOR_AT(latency_monitor_completion_answer, loaded, 3);
+LATENCY_MONITOR_AT(latency_monitor_completion_answer, debug, 4);
+
+LATENCY_MONITOR_SIZE(latency_monitor_elapsed_answer, 2);
+LATENCY_MONITOR_AT(latency_monitor_elapsed_answer, refusal, 0);
+LATENCY_MONITOR_AT(latency_monitor_elapsed_answer, ended, 1);
+
+#undef LATENCY_MONITOR_AT
+#undef LATENCY_MONITOR_SIZE
+#undef LATENCY_MONITOR_ASSERT
+
+#ifdef __cplusplus
+}
+#endif
+
+#endif
