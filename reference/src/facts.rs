@@ -19,9 +19,9 @@ pub struct Event {
 
 /// A completion that counts, with all that its own place says about it.
 #[derive(Clone, Copy, Debug)]
-struct Counted {
-    place: usize,
-    counter: usize,
+pub(crate) struct Counted {
+    pub(crate) place: usize,
+    pub(crate) counter: usize,
     event: Event,
     /// Time elapsed from the history's start to its place.
     time: u64,
@@ -52,7 +52,7 @@ pub struct Facts {
 
 /// The facts at the end of a history.
 pub fn facts(history: &[Call]) -> Facts {
-    let counted: Vec<Counted> = (0..history.len()).filter_map(|p| counted(history, p)).collect();
+    let counted = all_counted(history);
     let number = window_number(history, history.len());
     let window =
         |n: Option<u64>| -> WindowFacts { std::array::from_fn(|counter| counter_facts(history, &counted, counter, n)) };
@@ -61,7 +61,7 @@ pub fn facts(history: &[Call]) -> Facts {
         timer: timer(history),
         active_window: window(number),
         static_window: window(number.and_then(|n| n.checked_sub(1))),
-        debug_log: debug_log(history, &counted),
+        debug_log: first_trigger(history, &counted).map(|c| (c.counter, c.event)),
     }
 }
 
@@ -76,7 +76,7 @@ fn time(calls: &[Call]) -> u64 {
 }
 
 /// The clock at a place, and whether the host set it.
-fn clock(before: &[Call]) -> (u64, bool) {
+pub fn clock(before: &[Call]) -> (u64, bool) {
     let latest = before.iter().rposition(|call| accepted_clock(call).is_some());
     let (value, by_host) = latest.and_then(|p| accepted_clock(&before[p])).unwrap_or((0, false));
     let since = &before[latest.map_or(0, |p| p + 1)..];
@@ -97,14 +97,14 @@ fn enabled_time(history: &[Call], enabling: usize, place: usize) -> u64 {
 }
 
 /// The timer threshold of the latest enabling settings, and the time while enabled from them to a place.
-fn window_time(history: &[Call], place: usize) -> Option<(u64, u64)> {
+pub fn window_time(history: &[Call], place: usize) -> Option<(u64, u64)> {
     let enabling = latest_enabling(history).filter(|&p| p < place)?;
     let settings = accepted_settings(&history[enabling])?;
     Some((u64::from(settings.timer_threshold), enabled_time(history, enabling, place)))
 }
 
 /// The number of the window at a place, none before the latest enabling settings.
-fn window_number(history: &[Call], place: usize) -> Option<u64> {
+pub(crate) fn window_number(history: &[Call], place: usize) -> Option<u64> {
     window_time(history, place).map(|(threshold, t)| t / (INCREMENT_MS * threshold))
 }
 
@@ -136,6 +136,11 @@ fn bucket(thresholds: [u8; 4], latency_us: u32) -> Option<usize> {
 
 fn bit(mask: u16, n: usize) -> bool {
     mask >> n & 1 == 1
+}
+
+/// The completions that count, in order.
+pub(crate) fn all_counted(history: &[Call]) -> Vec<Counted> {
+    (0..history.len()).filter_map(|place| counted(history, place)).collect()
 }
 
 /// The call at a place as a completion that counts, if it is one.
@@ -177,7 +182,7 @@ fn counter_facts(history: &[Call], counted: &[Counted], counter: usize, number: 
 }
 
 /// The last load among a counter's completions in a window.
-fn latest_load<'a>(completions: &[&'a Counted]) -> Option<&'a Counted> {
+pub(crate) fn latest_load<'a>(completions: &[&'a Counted]) -> Option<&'a Counted> {
     completions.iter().fold(None, |load, &c| if loads(c, load) { Some(c) } else { load })
 }
 
@@ -194,9 +199,9 @@ fn loads(completion: &Counted, last_load: Option<&Counted>) -> bool {
     }
 }
 
-/// The counter and the event of the first trigger since the debug log was last discarded.
-fn debug_log(history: &[Call], counted: &[Counted]) -> Option<(usize, Event)> {
+/// The first trigger since the debug log was last discarded.
+pub(crate) fn first_trigger<'a>(history: &[Call], counted: &'a [Counted]) -> Option<&'a Counted> {
     let discard = history.iter().rposition(|c| accepted_settings(c).is_some_and(|s| s.discard == 1));
     let since = discard.map_or(0, |p| p + 1);
-    counted.iter().find(|c| c.place >= since && c.triggers).map(|c| (c.counter, c.event))
+    counted.iter().find(|c| c.place >= since && c.triggers)
 }

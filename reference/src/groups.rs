@@ -481,7 +481,7 @@ fn left_over(random: &mut Random) -> Vec<Events> {
     let mut files = Vec::new();
     for count in 1..=15 {
         files.push(Events::default().raw(&vec![0; count]));
-        let tail: Vec<u8> = (0..count).map(|_| random.next() as u8).collect();
+        let tail: Vec<u8> = (0..count).map(|_| random.bits() as u8).collect();
         files.push(example().raw(&tail));
         // The beginning of a completion that would count.
         let whole = Events::default().completion(READ, 50_000).0;
@@ -508,7 +508,7 @@ fn unknown_kinds(random: &mut Random) -> Vec<Events> {
     let mut file = example();
     for _ in 0..40 {
         let mut record = [0; 16];
-        record.fill_with(|| random.next() as u8);
+        record.fill_with(|| random.bits() as u8);
         record[0] = record[0].max(6);
         file = file.raw(&record);
     }
@@ -640,7 +640,7 @@ fn random_latency(random: &mut Random) -> u32 {
         4..=6 => random.below(100_000) as u32,
         7 => random.below(1_500_000) as u32,
         8 => random.below(80_000_000) as u32,
-        _ => random.next() as u32,
+        _ => random.bits() as u32,
     }
 }
 
@@ -667,7 +667,7 @@ fn random_event(random: &mut Random, file: Events) -> Events {
     match random.below(200) {
         0..=124 => {
             let opcode = match random.below(20) {
-                0 => random.next() as u8,
+                0 => random.bits() as u8,
                 n => KINDS[n as usize % 3],
             };
             file.completion(opcode, random_latency(random))
@@ -678,10 +678,10 @@ fn random_event(random: &mut Random, file: Events) -> Events {
         191..=195 => file.settings(random_settings(random)),
         196 => file.settings(breaking(std::array::from_fn(|_| random.chance(40)), random.below(5) as usize)),
         197 => file.elapsed(300_001 + random.below(1 << 31) as u32),
-        198 => file.timestamp(random.next() | 1 << 60),
+        198 => file.timestamp(random.bits() | 1 << 60),
         _ => {
             let mut record = [0; 16];
-            record.fill_with(|| random.next() as u8);
+            record.fill_with(|| random.bits() as u8);
             file.raw(&record)
         }
     }
@@ -719,7 +719,7 @@ fn damaged(random: &mut Random) -> Vec<Events> {
             file.0[place] = match random.below(3) {
                 0 => file.0[place] ^ 1 << random.below(8),
                 1 => random.below(6) as u8,
-                _ => random.next() as u8,
+                _ => random.bits() as u8,
             };
         }
         match random.below(6) {
@@ -731,7 +731,7 @@ fn damaged(random: &mut Random) -> Vec<Events> {
             // A byte too many, and a file that breaks off.
             1 => {
                 let place = random.below(file.0.len() as u64) as usize;
-                file.0.insert(place, random.next() as u8);
+                file.0.insert(place, random.bits() as u8);
             }
             2 => {
                 let length = random.below(file.0.len() as u64) as usize;

@@ -95,7 +95,7 @@ fn settings_refusal(bytes: &[u8]) -> Option<u8> {
     if bytes.len() != SETTINGS_LENGTH {
         return Some(1);
     }
-    if bytes[13..].iter().any(|&b| b != 0) {
+    if bytes[13..] != [0; SETTINGS_LENGTH - 13] {
         return Some(2);
     }
     let s = Settings::from_bytes(bytes);

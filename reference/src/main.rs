@@ -1,4 +1,4 @@
-//! A latency monitor computed from the facts of a history, apart from the product, to compare the product with.
+//! The reference at the command line:
 //!
 //!     reference vectors > FILE         the file of vectors
 //!     reference check < FILE           its groups, one a line, after reading it by the format
@@ -7,22 +7,12 @@
 //!     reference mixed BYTES > EVENTS   a long event file for measurements
 //!     reference files FOLDER           each vector's event file, with what the page program prints for it
 
-mod events;
-mod facts;
-mod groups;
-mod history;
-mod mixed;
-mod page;
-mod random;
-#[cfg(test)]
-mod tests;
-mod vectors;
-
 use std::fs;
 use std::io::{self, BufWriter, Read, Write};
 use std::process::ExitCode;
 
-use vectors::Vectors;
+use reference::vectors::Vectors;
+use reference::{events, groups, mixed, vectors};
 
 fn main() -> ExitCode {
     let words: Vec<String> = std::env::args().skip(1).collect();

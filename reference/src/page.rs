@@ -26,7 +26,8 @@ fn put(page: &mut [u8], place: usize, bytes: &[u8]) {
     page[place..place + bytes.len()].copy_from_slice(bytes);
 }
 
-fn page_bytes(facts: &Facts) -> [u8; PAGE_LENGTH] {
+/// The page that shows these facts.
+pub fn page_bytes(facts: &Facts) -> [u8; PAGE_LENGTH] {
     let settings = &facts.settings;
     let mut page = [0; PAGE_LENGTH];
     page[0] = settings.enable;

@@ -1,3 +1,4 @@
+use crate::answers::{answer, Answer};
 use crate::events::{printed, read, Events, Preset, Refused};
 use crate::facts::facts;
 use crate::groups::{example, groups};
@@ -109,6 +110,28 @@ fn edges() {
     assert_eq!(settings_back(&[], 4_095), Err(10));
     let discard = [Call::Settings(Settings { discard: 1, ..base() }.to_buffer())];
     assert_eq!(settings_back(&discard, 4_096), Ok(base().to_bytes()));
+}
+
+#[test]
+fn answers() {
+    let settings = Settings { timer_threshold: 1, mode: 1, debug_trigger: 1, ..base() };
+    let file = Events::default().completion(READ, 5_000).settings(settings).elapsed(300_001).elapsed(299_999);
+    let file = file.completion(READ, 4_999).completion(READ, 5_000).completion(READ, 5_999).completion(READ, 6_000);
+    let (history, _) = read(&file.elapsed(1).0, &[]);
+    let counted = |loaded, debug| Answer::Counted { counter: 0, loaded, debug };
+    let expected = [
+        Answer::NotCounted,
+        Answer::Done,
+        Answer::Refused(7),
+        Answer::Elapsed { ended: false },
+        Answer::NotCounted,
+        counted(true, true),
+        counted(false, false),
+        counted(true, false),
+        Answer::Elapsed { ended: true },
+    ];
+    let given: Vec<Answer> = (1..=history.len()).map(|end| answer(&history[..end])).collect();
+    assert_eq!(given, expected);
 }
 
 #[test]

@@ -1,0 +1,74 @@
+/* Document 01's example as firmware would play it: prints the page as the page program does. */
+
+#include <stdio.h>
+#include <stdlib.h>
+#include <string.h>
+
+#include "latency_monitor.h"
+
+static struct latency_monitor monitor;
+
+static void expect(bool holds, const char *what)
+{
+    if (!holds) {
+        fprintf(stderr, "example: %s\n", what);
+        exit(EXIT_FAILURE);
+    }
+}
+
+static void configure(void)
+{
+    static uint8_t settings[LATENCY_MONITOR_SETTINGS_LENGTH];
+
+    settings[0] = 2;  /* timer threshold */
+    settings[2] = 0;  /* A */
+    settings[3] = 1;  /* B */
+    settings[4] = 3;  /* C */
+    settings[5] = 9;  /* D */
+    settings[9] = 1;  /* trigger of counter 0 */
+    settings[12] = 1; /* enable */
+    expect(latency_monitor_configure(&monitor, settings, sizeof settings) == LATENCY_MONITOR_ACCEPTED, "settings");
+}
+
+static void complete_a_read(void)
+{
+    const struct latency_monitor_command command = {.opcode = 0x02, .latency = 7500};
+    const struct latency_monitor_completion_answer answer = latency_monitor_completion(&monitor, command);
+
+    expect(answer.counted && answer.counter == 0, "the Read counts in bucket 0");
+    expect(answer.loaded, "its latency stamp is loaded");
+    expect(answer.debug, "a debug log is taken");
+}
+
+/* 16 bytes a line, without the lines of zeros and without the version and the GUID. */
+static void print(const uint8_t *page)
+{
+    static const uint8_t zeros[16];
+
+    for (int line = 0; line < 480; line += 16) {
+        if (memcmp(page + line, zeros, sizeof zeros) == 0)
+            continue;
+        printf("%03X: ", line);
+        for (int place = line; place < line + 16; place++)
+            printf("%02X", page[place]);
+        putchar('\n');
+    }
+}
+
+int main(void)
+{
+    static uint8_t page[LATENCY_MONITOR_PAGE_LENGTH];
+    struct latency_monitor_elapsed_answer elapsed;
+
+    latency_monitor_new(&monitor);
+    configure();
+    elapsed = latency_monitor_elapsed(&monitor, 1000);
+    expect(elapsed.refusal == LATENCY_MONITOR_ACCEPTED && !elapsed.ended, "the active window goes on");
+    complete_a_read();
+    expect(monitor.active_window.counters[0] == 1, "the record shows the Read");
+
+    expect(latency_monitor_page(&monitor, page, sizeof page) == LATENCY_MONITOR_ACCEPTED, "the page");
+    expect(latency_monitor_page(&monitor, page, 511) == LATENCY_MONITOR_PAGE_LENGTH_WRONG, "a page of 511 bytes");
+    print(page);
+    return EXIT_SUCCESS;
+}

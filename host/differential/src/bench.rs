@@ -1,0 +1,91 @@
+//! Monitors side by side, each with the history of its calls.
+
+use latency_monitor::{Monitor, RECORD_LENGTH};
+use reference::answers::{answer, Answer};
+use reference::facts::{facts, Facts};
+use reference::history::{Call, PAGE_LENGTH, SETTINGS_LENGTH};
+
+use crate::compare;
+use crate::tally::Tally;
+
+pub struct Bench {
+    monitors: Vec<Monitor>,
+    histories: Vec<Vec<Call>>,
+    tally: Tally,
+}
+
+impl Bench {
+    pub fn new(monitors: usize) -> Bench {
+        Bench {
+            monitors: (0..monitors).map(|_| Monitor::new()).collect(),
+            histories: vec![vec![]; monitors],
+            tally: Tally::of_histories(monitors),
+        }
+    }
+
+    pub fn history(&self, at: usize) -> &[Call] {
+        &self.histories[at]
+    }
+
+    /// Makes each record a new monitor's, and gives the tally.
+    pub fn end(mut self) -> Result<Tally, String> {
+        let facts = facts(&[]);
+        for monitor in &mut self.monitors {
+            monitor.reset();
+            look(monitor, &[], &facts, 0).map_err(|difference| format!("after a reset: {difference}"))?;
+        }
+        Ok(self.tally)
+    }
+
+    /// Makes a call on one of the monitors, and looks at all that can be seen.
+    pub fn call(&mut self, at: usize, call: Call, salt: u8) -> Result<(), String> {
+        self.histories[at].push(call);
+        let history = &self.histories[at];
+        let due = answer(history);
+        self.tally.call(&history[history.len() - 1], due);
+        step(&mut self.monitors, at, history, due, salt).map_err(|difference| {
+            let calls: String = history.iter().map(|call| shown(call) + "\n").collect();
+            format!("{calls}monitor {at}, after the last of these calls: {difference}")
+        })
+    }
+}
+
+/// Makes the last call of a history; the other monitors stay as they were.
+fn step(monitors: &mut [Monitor], at: usize, history: &[Call], due: Answer, salt: u8) -> Result<(), String> {
+    let before: Vec<[u8; RECORD_LENGTH]> = monitors.iter().map(|monitor| *monitor.as_bytes()).collect();
+    let facts = facts(history);
+    compare::call(&mut monitors[at], &history[history.len() - 1], due, &facts, salt)?;
+    look(&mut monitors[at], history, &facts, salt)?;
+    for other in (0..monitors.len()).filter(|&other| other != at) {
+        compare::left(&before[other], &monitors[other])
+            .map_err(|difference| format!("monitor {other}: {difference}"))?;
+    }
+    Ok(())
+}
+
+/// The record, the page and the settings given back show the facts of a history.
+fn look(monitor: &mut Monitor, history: &[Call], facts: &Facts, salt: u8) -> Result<(), String> {
+    compare::fields(monitor.record(), history, facts)?;
+    for call in [Call::Page(PAGE_LENGTH), Call::SettingsBack(SETTINGS_LENGTH)] {
+        compare::call(monitor, &call, Answer::Done, facts, salt)
+            .map_err(|difference| format!("{}: {difference}", shown(&call)))?;
+    }
+    Ok(())
+}
+
+fn shown(call: &Call) -> String {
+    match call {
+        Call::Settings(bytes) => settings(bytes),
+        call => format!("{call:?}"),
+    }
+}
+
+/// The bytes up to 12, and the others that are not zero.
+fn settings(bytes: &[u8]) -> String {
+    let (named, reserved) = bytes.split_at(bytes.len().min(13));
+    let mut text = format!("Settings, {} bytes: {named:02X?}", bytes.len());
+    for (place, byte) in reserved.iter().enumerate().filter(|(_, &byte)| byte != 0) {
+        text += &format!(", {}: {byte:02X}", 13 + place);
+    }
+    text
+}

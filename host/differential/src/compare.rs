@@ -1,0 +1,116 @@
+//! One call on the library, held to what the reference says of it.
+
+use std::fmt::Debug;
+
+use latency_monitor::{Command, CompletionAnswer, ElapsedAnswer, Monitor, Record, Refusal, Window};
+use reference::answers::Answer;
+use reference::facts::{clock, window_time, Facts, WindowFacts, NO_STAMP};
+use reference::history::{Call, Settings, INCREMENT_MS};
+use reference::page::page_bytes;
+
+use crate::lent::{difference, Lent};
+
+/// Makes a call, and compares its answer, the buffer that it was lent, and the record if the call must leave it.
+pub fn call(monitor: &mut Monitor, call: &Call, due: Answer, facts: &Facts, salt: u8) -> Result<(), String> {
+    let before = *monitor.as_bytes();
+    let mut lent = match call {
+        Call::Settings(bytes) => Lent::holding(bytes, salt),
+        Call::Page(length) | Call::SettingsBack(length) => Lent::patterned(*length, salt),
+        _ => Lent::patterned(0, salt),
+    };
+    same("answer", answer(monitor, call, lent.slice()), due)?;
+    lent.check(content(call, due, facts).as_deref())?;
+    let leaves = matches!(due, Answer::Refused(_) | Answer::NotCounted);
+    if leaves || matches!(call, Call::Page(_) | Call::SettingsBack(_)) {
+        left(&before, monitor)?;
+    }
+    Ok(())
+}
+
+/// The record is byte for byte as it was.
+pub fn left(before: &[u8], monitor: &Monitor) -> Result<(), String> {
+    match difference(before, monitor.as_bytes()) {
+        None => Ok(()),
+        Some(place) => Err(format!("byte {place} of the record was changed")),
+    }
+}
+
+fn same<T: Debug + PartialEq>(what: &str, is: T, due: T) -> Result<(), String> {
+    if is == due {
+        Ok(())
+    } else {
+        Err(format!("{what}: {is:?}, not {due:?}"))
+    }
+}
+
+fn answer(monitor: &mut Monitor, call: &Call, lent: &mut [u8]) -> Answer {
+    match *call {
+        Call::Settings(_) => done(monitor.configure(lent)),
+        Call::Completion { opcode, latency_us } => match monitor.completion(Command { opcode, latency: latency_us }) {
+            CompletionAnswer::NotCounted => Answer::NotCounted,
+            CompletionAnswer::Counted { counter, loaded, debug } => Answer::Counted { counter, loaded, debug },
+        },
+        Call::Elapsed(ms) => match monitor.elapsed(ms) {
+            Ok(answer) => Answer::Elapsed { ended: answer == ElapsedAnswer::Ended },
+            Err(refusal) => Answer::Refused(refusal.number()),
+        },
+        Call::Timestamp(value) => done(monitor.set_clock(value)),
+        Call::PowerUp => done(monitor.power_up()),
+        Call::Page(_) => done(monitor.page(lent)),
+        Call::SettingsBack(_) => done(monitor.settings_back(lent)),
+        Call::Preset { .. } => unreachable!("no call of the library"),
+    }
+}
+
+fn done(answer: Result<(), Refusal>) -> Answer {
+    match answer {
+        Ok(()) => Answer::Done,
+        Err(refusal) => Answer::Refused(refusal.number()),
+    }
+}
+
+/// What a lent buffer holds after the call, if not its pattern.
+fn content(call: &Call, due: Answer, facts: &Facts) -> Option<Vec<u8>> {
+    match call {
+        Call::Settings(bytes) => Some(bytes.clone()),
+        Call::Page(_) if due == Answer::Done => Some(page_bytes(facts).to_vec()),
+        Call::SettingsBack(_) if due == Answer::Done => Some(Settings { discard: 0, ..facts.settings }.to_buffer()),
+        _ => None,
+    }
+}
+
+/// The record's fields, read where the header has them.
+pub fn fields(record: &Record, history: &[Call], facts: &Facts) -> Result<(), String> {
+    let in_force = Settings {
+        timer_threshold: record.settings.timer_threshold,
+        thresholds: record.settings.thresholds,
+        mode: record.settings.mode,
+        minimum_window: record.settings.minimum_window,
+        debug_trigger: record.settings.trigger,
+        discard: facts.settings.discard,
+        enable: u8::from(record.settings.enabled),
+    };
+    same("settings", in_force, facts.settings)?;
+    same("timer", record.timer, facts.timer)?;
+    let time = window_time(history, history.len()).map_or(0, |(_, time)| time);
+    same("partial", u64::from(record.partial), time % INCREMENT_MS)?;
+    same("clock and host", (record.clock, record.host), clock(history))?;
+    window("static window", &record.static_window, &facts.static_window)?;
+    window("active window", &record.active_window, &facts.active_window)?;
+    let debug = &record.debug;
+    let due = facts.debug_log.map_or((NO_STAMP, 0, 0, false), |(counter, event)| {
+        (event.stamp, event.measured_latency, 1 << counter, event.stamp_unit)
+    });
+    same("debug log", (debug.stamp, debug.latency, debug.source, debug.units), due)
+}
+
+fn window(what: &str, window: &Window, facts: &WindowFacts) -> Result<(), String> {
+    for (n, due) in facts.iter().enumerate() {
+        let (stamp, latency, units) =
+            due.latest_load.map_or((NO_STAMP, 0, false), |load| (load.stamp, load.measured_latency, load.stamp_unit));
+        let is = (window.counters[n], window.stamps[n], window.latencies[n], window.units[n]);
+        same(what, is, (due.count, stamp, latency, units))
+            .map_err(|difference| format!("counter {n} of the {difference}"))?;
+    }
+    Ok(())
+}

@@ -1,0 +1,96 @@
+//! How often each call, refusal and answer was met.
+
+use std::fmt::{Display, Formatter, Result as Written};
+
+use reference::answers::Answer;
+use reference::history::Call;
+
+/// A run that meets one of them less often has not tried it.
+const LEAST: u64 = 500;
+
+const CALLS: [&str; 7] = ["settings", "completion", "elapsed", "clock", "power-up", "page", "settings back"];
+const REFUSALS: [&str; 10] = ["by 1", "by 2", "by 3", "by 4", "by 5", "by 6", "by 7", "by 8", "by 9", "by 10"];
+const ANSWERS: [&str; 6] = ["done", "not counted", "counted", "stamp loaded", "debug log taken", "window ended"];
+
+#[derive(Clone, Default)]
+pub struct Tally {
+    histories: u64,
+    calls: [u64; CALLS.len()],
+    refusals: [u64; REFUSALS.len()],
+    answers: [u64; ANSWERS.len()],
+}
+
+impl Tally {
+    /// So many histories, with no call yet.
+    pub fn of_histories(histories: usize) -> Tally {
+        Tally { histories: histories as u64, ..Tally::default() }
+    }
+
+    pub fn call(&mut self, call: &Call, answer: Answer) {
+        self.calls[kind(call)] += 1;
+        match answer {
+            Answer::Refused(number) => self.refusals[usize::from(number) - 1] += 1,
+            Answer::Done => self.answers[0] += 1,
+            Answer::NotCounted => self.answers[1] += 1,
+            Answer::Counted { loaded, debug, .. } => {
+                self.answers[2] += 1;
+                self.answers[3] += u64::from(loaded);
+                self.answers[4] += u64::from(debug);
+            }
+            Answer::Elapsed { ended } => self.answers[5] += u64::from(ended),
+        }
+    }
+
+    pub fn add(&mut self, other: &Tally) {
+        self.histories += other.histories;
+        for (sum, more) in self.counts_mut().zip(other.counts()) {
+            *sum += more;
+        }
+    }
+
+    /// The tally, unless something was met too rarely.
+    pub fn if_complete(self) -> Result<Tally, String> {
+        let names = CALLS.into_iter().chain(REFUSALS).chain(ANSWERS);
+        let rare: Vec<&str> = names.zip(self.counts()).filter(|&(_, n)| n < LEAST).map(|(name, _)| name).collect();
+        if rare.is_empty() {
+            Ok(self)
+        } else {
+            Err(format!("{self}\nmet fewer than {LEAST} times: {}", rare.join(", ")))
+        }
+    }
+
+    fn counts(&self) -> impl Iterator<Item = u64> + '_ {
+        self.calls.iter().chain(&self.refusals).chain(&self.answers).copied()
+    }
+
+    fn counts_mut(&mut self) -> impl Iterator<Item = &mut u64> {
+        self.calls.iter_mut().chain(&mut self.refusals).chain(&mut self.answers)
+    }
+}
+
+fn kind(call: &Call) -> usize {
+    match call {
+        Call::Settings(_) => 0,
+        Call::Completion { .. } => 1,
+        Call::Elapsed(_) => 2,
+        Call::Timestamp(_) => 3,
+        Call::PowerUp => 4,
+        Call::Page(_) => 5,
+        Call::SettingsBack(_) => 6,
+        Call::Preset { .. } => unreachable!("no call of the library"),
+    }
+}
+
+impl Display for Tally {
+    fn fmt(&self, f: &mut Formatter) -> Written {
+        writeln!(f, "{} histories, {} calls", self.histories, self.calls.iter().sum::<u64>())?;
+        writeln!(f, "calls: {}", listed(&CALLS, &self.calls))?;
+        writeln!(f, "refused: {}", listed(&REFUSALS, &self.refusals))?;
+        write!(f, "answers: {}", listed(&ANSWERS, &self.answers))
+    }
+}
+
+fn listed(names: &[&str], counts: &[u64]) -> String {
+    let pairs: Vec<String> = names.iter().zip(counts).map(|(name, count)| format!("{name} {count}")).collect();
+    pairs.join(", ")
+}

@@ -1,0 +1,24 @@
+//! Links the archive that `rt staticlib device` writes.
+
+use std::env;
+use std::path::{Path, PathBuf};
+
+/// Names the archive's folder, where it is not the repository's.
+const FOLDER: &str = "LATENCY_MONITOR_LIB";
+
+fn main() {
+    println!("cargo::rerun-if-env-changed={FOLDER}");
+    let folder = env::var_os(FOLDER).map_or_else(repositorys, PathBuf::from);
+    let archive = folder.join("libdevice.a");
+    println!("cargo::rerun-if-changed={}", archive.display());
+    if !archive.is_file() {
+        println!("cargo::error=no {}: run `rt staticlib device`, or name its folder in {FOLDER}", archive.display());
+        return;
+    }
+    println!("cargo::rustc-link-search=native={}", folder.display());
+    println!("cargo::rustc-link-lib=static=device");
+}
+
+fn repositorys() -> PathBuf {
+    Path::new(env!("CARGO_MANIFEST_DIR")).join("../../target/staticlib")
+}

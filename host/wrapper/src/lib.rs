@@ -1,0 +1,123 @@
+//! The latency monitor for Rust: a safe wrapper over the C library.
+//!
+//! ```
+//! use latency_monitor::{Command, CompletionAnswer, Monitor, PAGE_LENGTH, SETTINGS_LENGTH};
+//!
+//! let mut settings = [0; SETTINGS_LENGTH];
+//! settings[0] = 2; // timer threshold
+//! settings[2..6].copy_from_slice(&[0, 1, 3, 9]); // A to D
+//! settings[9] = 1; // trigger of counter 0
+//! settings[12] = 1; // enable
+//!
+//! let mut monitor = Monitor::new();
+//! monitor.configure(&settings)?;
+//! monitor.elapsed(1_000)?;
+//! let answer = monitor.completion(Command { opcode: 0x02, latency: 7_500 });
+//! assert_eq!(answer, CompletionAnswer::Counted { counter: 0, loaded: true, debug: true });
+//!
+//! let mut page = [0; PAGE_LENGTH];
+//! monitor.page(&mut page)?;
+//! assert_eq!(page[44], 1); // Reads in bucket 0
+//! # Ok::<(), latency_monitor::Refusal>(())
+//! ```
+
+#![no_std]
+
+mod answers;
+mod sys;
+
+use core::mem::MaybeUninit;
+
+pub use answers::{CompletionAnswer, ElapsedAnswer, Refusal};
+pub use sys::{Command, DebugLog, Record, Settings, Window, COUNTERS};
+
+/// The length of settings.
+pub const SETTINGS_LENGTH: usize = 4096;
+/// The length of log page C3h.
+pub const PAGE_LENGTH: usize = 512;
+/// The length of a record.
+pub const RECORD_LENGTH: usize = size_of::<Record>();
+/// A latency stamp that is not set.
+pub const UNSET: u64 = u64::MAX;
+
+/// A monitor's record. Only the calls change it.
+#[repr(transparent)]
+#[derive(Clone, Debug)]
+pub struct Monitor(Record);
+
+impl Monitor {
+    /// A new monitor: disabled, settings zero, clock 0, both windows empty.
+    pub fn new() -> Monitor {
+        let mut record = MaybeUninit::zeroed();
+        // SAFETY: the storage is a record's and zeroed, and the call makes it a new monitor's.
+        Monitor(unsafe {
+            sys::latency_monitor_new(record.as_mut_ptr());
+            record.assume_init()
+        })
+    }
+
+    /// Makes the record a new monitor's again.
+    pub fn reset(&mut self) {
+        // SAFETY: the record is borrowed alone.
+        unsafe { sys::latency_monitor_new(&mut self.0) }
+    }
+
+    /// Accepts settings, 4,096 bytes.
+    pub fn configure(&mut self, settings: &[u8]) -> Result<(), Refusal> {
+        // SAFETY: the record is borrowed alone, and the length is the slice's.
+        answers::accepted(unsafe { sys::latency_monitor_configure(&mut self.0, settings.as_ptr(), settings.len()) })
+    }
+
+    /// Takes a completed command.
+    pub fn completion(&mut self, command: Command) -> CompletionAnswer {
+        // SAFETY: the record is borrowed alone.
+        unsafe { sys::latency_monitor_completion(&mut self.0, command) }.into()
+    }
+
+    /// Lets time pass, at most 300,000 ms.
+    pub fn elapsed(&mut self, ms: u32) -> Result<ElapsedAnswer, Refusal> {
+        // SAFETY: the record is borrowed alone.
+        unsafe { sys::latency_monitor_elapsed(&mut self.0, ms) }.try_into()
+    }
+
+    /// The host sets the clock, in ms, below 2^48.
+    pub fn set_clock(&mut self, ms: u64) -> Result<(), Refusal> {
+        // SAFETY: the record is borrowed alone.
+        answers::accepted(unsafe { sys::latency_monitor_set_clock(&mut self.0, ms) })
+    }
+
+    /// The drive powered up: the clock is 0, and not the host's. Never turned away.
+    pub fn power_up(&mut self) -> Result<(), Refusal> {
+        // SAFETY: the record is borrowed alone.
+        answers::accepted(unsafe { sys::latency_monitor_power_up(&mut self.0) })
+    }
+
+    /// Writes log page C3h, 512 bytes.
+    pub fn page(&self, page: &mut [u8]) -> Result<(), Refusal> {
+        // SAFETY: the record is only read, and the length is the slice's.
+        answers::accepted(unsafe { sys::latency_monitor_page(&self.0, page.as_mut_ptr(), page.len()) })
+    }
+
+    /// Writes the settings in force, 4,096 bytes, the discard byte as zero.
+    pub fn settings_back(&self, settings: &mut [u8]) -> Result<(), Refusal> {
+        // SAFETY: the record is only read, and the length is the slice's.
+        answers::accepted(unsafe { sys::latency_monitor_settings_back(&self.0, settings.as_mut_ptr(), settings.len()) })
+    }
+
+    /// The record's fields, to be read.
+    pub fn record(&self) -> &Record {
+        &self.0
+    }
+
+    /// The record's bytes. Those between fields mean nothing, and may differ in records whose fields are equal.
+    pub fn as_bytes(&self) -> &[u8; RECORD_LENGTH] {
+        // SAFETY: every byte of a record belongs to a field, and any bytes are an array of bytes.
+        unsafe { &*(&raw const self.0).cast() }
+    }
+}
+
+impl Default for Monitor {
+    fn default() -> Monitor {
+        Monitor::new()
+    }
+}

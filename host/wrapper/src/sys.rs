@@ -1,0 +1,156 @@
+//! What include/latency_monitor.h declares.
+//!
+//! The bytes between fields have names here, so that each byte of a record may be read.
+
+use core::mem::{align_of, offset_of, size_of};
+
+/// Counters stand by number, 3 x bucket + kind: the kind is Read (0), Write (1) or Deallocate (2).
+pub const COUNTERS: usize = 12;
+
+/// The settings in force.
+#[repr(C)]
+#[derive(Clone, Copy, Debug)]
+#[non_exhaustive]
+pub struct Settings {
+    /// In increments of five minutes.
+    pub timer_threshold: u16,
+    /// Bit n: counter n in mode largest.
+    pub mode: u16,
+    /// Bit n: counter n triggers a debug log.
+    pub trigger: u16,
+    /// A to D: byte v means 5 x (v + 1) ms.
+    pub thresholds: [u8; 4],
+    /// In units of 100 ms.
+    pub minimum_window: u8,
+    pub enabled: bool,
+}
+
+/// A window, by counter number.
+#[repr(C)]
+#[derive(Clone, Copy, Debug)]
+#[non_exhaustive]
+pub struct Window {
+    pub counters: [u32; COUNTERS],
+    pub stamps: [u64; COUNTERS],
+    /// Measured latencies, in ms.
+    pub latencies: [u16; COUNTERS],
+    /// Stamp units: whether the host had set the clock.
+    pub units: [bool; COUNTERS],
+    padding: [u8; 4],
+}
+
+/// The debug log; none is held while its stamp is [`UNSET`](crate::UNSET).
+#[repr(C)]
+#[derive(Clone, Copy, Debug)]
+#[non_exhaustive]
+pub struct DebugLog {
+    pub stamp: u64,
+    pub latency: u16,
+    /// The counter, as one set bit.
+    pub source: u16,
+    pub units: bool,
+    padding: [u8; 3],
+}
+
+/// The record.
+#[repr(C)]
+#[derive(Clone, Copy, Debug)]
+#[non_exhaustive]
+pub struct Record {
+    pub settings: Settings,
+    /// Active Bucket Timer, in increments of five minutes.
+    pub timer: u16,
+    /// Whether the host set the clock.
+    pub host: bool,
+    padding: [u8; 1],
+    /// Time since the timer's last increment, in ms.
+    pub partial: u32,
+    more_padding: [u8; 4],
+    /// In ms.
+    pub clock: u64,
+    /// Time in the active window at the stamp's last load, in ms.
+    pub loaded: [u64; COUNTERS],
+    pub debug: DebugLog,
+    pub static_window: Window,
+    pub active_window: Window,
+}
+
+/// A completed command.
+#[repr(C)]
+#[derive(Clone, Copy, Debug)]
+pub struct Command {
+    /// In microseconds.
+    pub latency: u32,
+    pub opcode: u8,
+}
+
+#[repr(C)]
+pub struct CompletionAnswer {
+    pub counter: u16,
+    pub counted: bool,
+    pub loaded: bool,
+    pub debug: bool,
+}
+
+#[repr(C)]
+pub struct ElapsedAnswer {
+    pub refusal: u8,
+    pub ended: bool,
+}
+
+extern "C" {
+    pub fn latency_monitor_new(monitor: *mut Record);
+    pub fn latency_monitor_configure(monitor: *mut Record, settings: *const u8, length: usize) -> u8;
+    pub fn latency_monitor_completion(monitor: *mut Record, command: Command) -> CompletionAnswer;
+    pub fn latency_monitor_elapsed(monitor: *mut Record, ms: u32) -> ElapsedAnswer;
+    pub fn latency_monitor_set_clock(monitor: *mut Record, ms: u64) -> u8;
+    pub fn latency_monitor_power_up(monitor: *mut Record) -> u8;
+    pub fn latency_monitor_page(monitor: *const Record, page: *mut u8, length: usize) -> u8;
+    pub fn latency_monitor_settings_back(monitor: *const Record, settings: *mut u8, length: usize) -> u8;
+}
+
+/// Holds a struct to the header: its size and alignment, and the offset of every field.
+macro_rules! layout {
+    ($type:ident, $size:literal, $align:literal, { $($field:ident: $offset:literal),* $(,)? }) => {
+        const _: () = {
+            assert!(size_of::<$type>() == $size);
+            assert!(align_of::<$type>() == $align);
+            $(assert!(offset_of!($type, $field) == $offset);)*
+        };
+        // Does not compile if the list lacks a field.
+        const _: fn($type) = |$type { $($field: _),* }| ();
+    };
+}
+
+layout!(Settings, 12, 2, {
+    timer_threshold: 0,
+    mode: 2,
+    trigger: 4,
+    thresholds: 6,
+    minimum_window: 10,
+    enabled: 11,
+});
+
+layout!(Window, 184, 8, { counters: 0, stamps: 48, latencies: 144, units: 168, padding: 180 });
+
+layout!(DebugLog, 16, 8, { stamp: 0, latency: 8, source: 10, units: 12, padding: 13 });
+
+layout!(Record, 512, 8, {
+    settings: 0,
+    timer: 12,
+    host: 14,
+    padding: 15,
+    partial: 16,
+    more_padding: 20,
+    clock: 24,
+    loaded: 32,
+    debug: 128,
+    static_window: 144,
+    active_window: 328,
+});
+
+layout!(Command, 8, 4, { latency: 0, opcode: 4 });
+
+layout!(CompletionAnswer, 6, 2, { counter: 0, counted: 2, loaded: 3, debug: 4 });
+
+layout!(ElapsedAnswer, 2, 1, { refusal: 0, ended: 1 });

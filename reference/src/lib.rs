@@ -1,0 +1,13 @@
+//! A latency monitor computed from the facts of a history, apart from the product, to compare the product with.
+
+pub mod answers;
+pub mod events;
+pub mod facts;
+pub mod groups;
+pub mod history;
+pub mod mixed;
+pub mod page;
+pub mod random;
+#[cfg(test)]
+mod tests;
+pub mod vectors;
