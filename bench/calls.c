@@ -1,0 +1,325 @@
+/*
+ * Measures the calls of the product beside those of the monitor in C.
+ *   calls times ROUNDS           ns a call: a line for each case
+ *   calls count SIDE CASE LAPS   runs one case on one side and prints its calls, for a count of instructions
+ *   calls stack                  the stack of each call, in bytes
+ *   calls record                 the size of the record, in bytes
+ * A line's fields are separated by tabs: the product's first, then those of C by gcc -O2 and by gcc -O3.
+ */
+
+#include "side.h"
+
+#include <stdio.h>
+#include <stdlib.h>
+#include <string.h>
+#include <time.h>
+
+extern const struct side product, c_O2, c_O3;
+
+enum { SIDES = 3, RUNS = 20, LAPS = 16, MOST_ROUNDS = 1001 };
+
+static const struct side *const sides[SIDES] = {&product, &c_O2, &c_O3};
+
+/* Calls of a lap: of the short ones, and of those that go over 512 or 4,096 bytes. */
+enum { SHORT = 1536, LONG = 64 };
+
+enum { COUNTERS = LATENCY_MONITOR_COUNTERS, FIRST = 0, LARGEST = 0x0FFF, TRIGGER = 0x0249, INCREMENT_MS = 300000 };
+
+static struct latency_monitor_command below[SHORT], slow[SHORT], each_counter[COUNTERS];
+static uint32_t ms[SHORT];
+static uint64_t clocks[SHORT];
+static struct named_settings settings[LONG];
+
+/* Each counter has as many of a lap's slow commands, and the twelve numbers add up to 66. */
+#define COUNTED (((uint64_t)SHORT << COUNTED_AT) + SHORT / COUNTERS * 66)
+#define LOADED (((uint64_t)SHORT << LOADED_AT) + COUNTED)
+#define LAP_ENDED (UINT64_C(1) << (ENDED_AT + LAP_TIME_AT))
+
+/* Where stamps are loaded, each lap starts with a new window. */
+static const struct work works[] = {
+    [EMPTY_COMPLETION] = {.name = "empty completion", .call = EMPTY_COMPLETION, .calls = SHORT, .commands = slow},
+    [EMPTY_NUMBER] = {.name = "empty call", .call = EMPTY_NUMBER, .calls = SHORT},
+    {.name = "completion, not counted", .call = COMPLETION, .calls = SHORT, .commands = below},
+    {.name = "completion, counted", .call = COMPLETION, .calls = SHORT, .commands = slow, .mode = FIRST,
+        .answers = COUNTED},
+    {.name = "completion, loaded", .call = COMPLETION, .calls = SHORT, .commands = slow, .mode = LARGEST,
+        .lap_ms = INCREMENT_MS, .answers = LOADED + LAP_ENDED},
+    {.name = "elapsed", .call = ELAPSED, .calls = SHORT, .ms = ms},
+    {.name = "set_clock", .call = SET_CLOCK, .calls = SHORT, .clocks = clocks},
+    {.name = "power_up", .call = POWER_UP, .calls = SHORT},
+    {.name = "page", .call = PAGE, .calls = LONG},
+    {.name = "settings_back", .call = SETTINGS_BACK, .calls = LONG},
+    {.name = "configure", .call = CONFIGURE, .calls = LONG, .settings = settings},
+    {.name = "new", .call = NEW, .calls = LONG},
+};
+
+enum { WORKS = sizeof works / sizeof works[0] };
+
+struct latency_monitor_completion_answer empty_completion(const void *record, struct latency_monitor_command command)
+{
+    (void)record;
+    (void)command;
+    return (struct latency_monitor_completion_answer){0};
+}
+
+uint8_t empty_number(const void *record)
+{
+    (void)record;
+    return 0;
+}
+
+static void fail(const char *name, const char *what)
+{
+    fprintf(stderr, "calls: %s: %s\n", name, what);
+    exit(EXIT_FAILURE);
+}
+
+static uint32_t draw(uint32_t from_zero_to_below)
+{
+    static uint64_t state = 0x6C6174656E637921;
+
+    state = state * 6364136223846793005 + 1442695040888963407;
+    return (uint32_t)((state >> 32) * from_zero_to_below >> 32);
+}
+
+/* 5, 160, 320 and 480 ms: each bucket has room for a lap's rise, 1 ms at a time. */
+static const uint8_t thresholds[4] = {0, 31, 63, 95};
+
+static struct latency_monitor_command command_for(int counter, uint32_t above_us)
+{
+    static const uint8_t opcodes[3] = {0x02, 0x01, 0x09};
+    uint32_t threshold_us = 5000 * (thresholds[counter / 3] + 1u);
+
+    return (struct latency_monitor_command){.latency = threshold_us + above_us, .opcode = opcodes[counter % 3]};
+}
+
+static struct named_settings settings_of(uint16_t timer_threshold, uint16_t mode, uint16_t trigger, bool enable)
+{
+    return (struct named_settings){{
+        timer_threshold & 0xFF, timer_threshold >> 8, thresholds[0], thresholds[1], thresholds[2], thresholds[3],
+        mode & 0xFF, mode >> 8, 0, trigger & 0xFF, trigger >> 8, 0, enable
+    }};
+}
+
+/* The counters in a drawn order, each with commands that are 1 ms slower every time. */
+static void draw_slow(void)
+{
+    uint8_t order[SHORT];
+    uint32_t seen[COUNTERS] = {0};
+
+    for (int i = 0; i < SHORT; i++) {
+        int other = (int)draw((uint32_t)i + 1);
+        order[i] = order[other];
+        order[other] = (uint8_t)(i % COUNTERS);
+    }
+    for (int i = 0; i < SHORT; i++)
+        slow[i] = command_for(order[i], 1000 * seen[order[i]]++ + draw(1000));
+}
+
+/* A run's elapsed times stay below the timer's increment. */
+static void draw_inputs(void)
+{
+    for (int n = 0; n < COUNTERS; n++)
+        each_counter[n] = command_for(n, 0);
+    draw_slow();
+    for (int i = 0; i < SHORT; i++) {
+        below[i] = command_for((int)draw(3), 0);
+        below[i].latency = 20 + draw(4980);
+        ms[i] = draw(20);
+        clocks[i] = (uint64_t)draw(1 << 16) << 32 | draw(UINT32_MAX);
+    }
+    for (int i = 0; i < LONG; i++) {
+        uint16_t timer_threshold = (uint16_t)(1 + draw(1000)), mode = (uint16_t)draw(4096);
+        settings[i] = settings_of(timer_threshold, mode, (uint16_t)draw(4096), draw(4) > 0);
+        settings[i].bytes[8] = (uint8_t)draw(256);
+        settings[i].bytes[11] = (uint8_t)draw(2);
+    }
+}
+
+/* A monitor in use: enabled, the clock set, every stamp set, and a debug log held. */
+static void make_ready(const struct side *side, uint16_t mode)
+{
+    side->once(&(struct stroke){.call = NEW});
+    side->once(&(struct stroke){.call = CONFIGURE, .settings = settings_of(1, mode, TRIGGER, true)});
+    side->once(&(struct stroke){.call = SET_CLOCK, .clock = 1700000000000});
+    for (int n = 0; n < COUNTERS; n++)
+        side->once(&(struct stroke){.call = COMPLETION, .command = each_counter[n]});
+}
+
+/* Each call did what its case is about, and none was turned away. */
+static void check_answers(const struct work *w, size_t laps, uint64_t sum)
+{
+    if (sum != laps * w->answers)
+        fail(w->name, "other answers than the case has");
+}
+
+/* What the sides show must be the same bytes. */
+static void check_shown(const struct work *w)
+{
+    static uint8_t page[SIDES][LATENCY_MONITOR_PAGE_LENGTH], back[SIDES][LATENCY_MONITOR_SETTINGS_LENGTH];
+
+    for (int s = 0; s < SIDES; s++) {
+        sides[s]->show(page[s], back[s]);
+        if (memcmp(page[s], page[0], sizeof page[0]) != 0)
+            fail(w->name, "the pages differ");
+        if (memcmp(back[s], back[0], sizeof back[0]) != 0)
+            fail(w->name, "the settings given back differ");
+    }
+}
+
+/* The program's own time: other programs' turns on the processor are left out. */
+static double now_ns(void)
+{
+    struct timespec t;
+
+    clock_gettime(CLOCK_PROCESS_CPUTIME_ID, &t);
+    return 1e9 * (double)t.tv_sec + (double)t.tv_nsec;
+}
+
+static double ns_a_call(const struct side *side, const struct work *w)
+{
+    double took = 0;
+
+    for (int r = 0; r < RUNS; r++) {
+        uint64_t sum;
+        double from;
+        make_ready(side, w->mode);
+        from = now_ns();
+        sum = side->run(w, LAPS);
+        took += now_ns() - from;
+        check_answers(w, LAPS, sum);
+    }
+    return took / (double)(RUNS * LAPS * w->calls);
+}
+
+/* The sides take turns, and every second round goes back the same way. */
+static void measure(const struct work *w, size_t rounds, double ns[SIDES][MOST_ROUNDS])
+{
+    for (size_t r = 0; r < rounds; r++)
+        for (int i = 0; i < SIDES; i++) {
+            int s = r % 2 ? SIDES - 1 - i : i;
+            ns[s][r] = ns_a_call(sides[s], w);
+        }
+    check_shown(w);
+}
+
+static int ascending(const void *a, const void *b)
+{
+    double x = *(const double *)a, y = *(const double *)b;
+
+    return (x > y) - (x < y);
+}
+
+static double median(const double *values, size_t count)
+{
+    static double sorted[MOST_ROUNDS];
+
+    memcpy(sorted, values, count * sizeof *values);
+    qsort(sorted, count, sizeof *sorted, ascending);
+    return (sorted[(count - 1) / 2] + sorted[count / 2]) / 2;
+}
+
+/* The ratio of the medians, the smallest and the largest of a round, and the one less the empty calls' times. */
+static void print_ratios(size_t rounds, const double *ours, const double *c, double our_empty, double c_empty)
+{
+    double our_median = median(ours, rounds), c_median = median(c, rounds);
+    double smallest = ours[0] / c[0], largest = smallest;
+
+    for (size_t r = 1; r < rounds; r++) {
+        double ratio = ours[r] / c[r];
+        smallest = ratio < smallest ? ratio : smallest;
+        largest = ratio > largest ? ratio : largest;
+    }
+    printf("\t%.2f\t%.2f\t%.2f", our_median / c_median, smallest, largest);
+    if (c_median > c_empty)
+        printf("\t%.2f\n", (our_median - our_empty) / (c_median - c_empty));
+    else
+        printf("\t-\n");
+}
+
+/* The case whose loop is the same, around a call that does nothing. */
+static enum call empty_of(enum call call)
+{
+    return call == COMPLETION || call == EMPTY_COMPLETION ? EMPTY_COMPLETION : EMPTY_NUMBER;
+}
+
+/* Ratios are to the faster C side. */
+static void print_times(size_t rounds)
+{
+    static double ns[SIDES][MOST_ROUNDS], middle[WORKS][SIDES];
+
+    for (int k = 0; k < WORKS; k++) {
+        const double *empty = middle[empty_of(works[k].call)];
+        int c;
+        measure(&works[k], rounds, ns);
+        printf("%s", works[k].name);
+        for (int s = 0; s < SIDES; s++) {
+            middle[k][s] = median(ns[s], rounds);
+            printf("\t%.2f", middle[k][s]);
+        }
+        c = middle[k][1] <= middle[k][2] ? 1 : 2;
+        print_ratios(rounds, ns[0], ns[c], empty[0], empty[c]);
+        fflush(stdout);
+    }
+}
+
+static void count(size_t side, size_t work, size_t laps)
+{
+    if (side >= SIDES || work >= WORKS)
+        fail("count", "no such side or case");
+    make_ready(sides[side], works[work].mode);
+    check_answers(&works[work], laps, sides[side]->run(&works[work], laps));
+    printf("%zu\n", laps * works[work].calls);
+}
+
+/* Each call in its ways: a completion loads and takes a debug log, and then neither; the window ends. */
+static void note_depths(const struct side *side, size_t depth[CALLS])
+{
+    const struct stroke strokes[] = {
+        {.call = NEW}, {.call = CONFIGURE, .settings = settings_of(1, LARGEST, LARGEST, true)},
+        {.call = SET_CLOCK, .clock = 1}, {.call = COMPLETION, .command = below[0]},
+        {.call = COMPLETION, .command = slow[0]}, {.call = ELAPSED, .ms = 1}, {.call = ELAPSED, .ms = INCREMENT_MS},
+        {.call = ELAPSED, .ms = INCREMENT_MS + 1}, {.call = POWER_UP}, {.call = PAGE}, {.call = SETTINGS_BACK}
+    };
+
+    for (size_t i = 0; i < sizeof strokes / sizeof strokes[0]; i++) {
+        size_t here = stack_depth(side, &strokes[i]);
+        if (here > depth[strokes[i].call])
+            depth[strokes[i].call] = here;
+    }
+}
+
+static void print_stack(void)
+{
+    static const char *const names[CALLS] = {
+        [NEW] = "new", [CONFIGURE] = "configure", [COMPLETION] = "completion", [ELAPSED] = "elapsed",
+        [SET_CLOCK] = "set_clock", [POWER_UP] = "power_up", [PAGE] = "page", [SETTINGS_BACK] = "settings_back"
+    };
+    size_t depth[SIDES][CALLS] = {{0}};
+
+    for (int s = 0; s < SIDES; s++)
+        note_depths(sides[s], depth[s]);
+    for (int call = NEW; call < CALLS; call++)
+        printf("%s\t%zu\t%zu\t%zu\n", names[call], depth[0][call], depth[1][call], depth[2][call]);
+}
+
+int main(int argc, char **argv)
+{
+    const char *job = argc > 1 ? argv[1] : "";
+    size_t numbers[3] = {0};
+
+    for (int i = 2; i < argc && i < 5; i++)
+        numbers[i - 2] = strtoul(argv[i], NULL, 10);
+    draw_inputs();
+    if (strcmp(job, "times") == 0 && numbers[0] >= 1 && numbers[0] <= MOST_ROUNDS)
+        print_times(numbers[0]);
+    else if (strcmp(job, "count") == 0)
+        count(numbers[0], numbers[1], numbers[2]);
+    else if (strcmp(job, "stack") == 0)
+        print_stack();
+    else if (strcmp(job, "record") == 0)
+        printf("%zu\t%zu\t%zu\n", sides[0]->record_size, sides[1]->record_size, sides[2]->record_size);
+    else
+        fail(job, "times ROUNDS (1 to 1001), count SIDE CASE LAPS, stack or record");
+    return 0;
+}

@@ -1,0 +1,272 @@
+#include "in_place.h"
+
+#include <endian.h>
+#include <string.h>
+
+enum { INCREMENT_MS = 300000, NAMED_SETTINGS = 13 };
+
+#define CLOCK_TOP UINT64_C(0xFFFFFFFFFFFF)
+
+/* The place of a field's lowest bit in the answer to a completion. */
+#define AT(field) (8 * offsetof(struct latency_monitor_completion_answer, field))
+
+static uint16_t get16(const uint8_t *p)
+{
+    uint16_t v;
+    memcpy(&v, p, sizeof v);
+    return le16toh(v);
+}
+
+static void put16(uint8_t *p, uint16_t v)
+{
+    v = htole16(v);
+    memcpy(p, &v, sizeof v);
+}
+
+static void put32(uint8_t *p, uint32_t v)
+{
+    v = htole32(v);
+    memcpy(p, &v, sizeof v);
+}
+
+static void put64(uint8_t *p, uint64_t v)
+{
+    v = htole64(v);
+    memcpy(p, &v, sizeof v);
+}
+
+static void empty(struct in_place_window *w)
+{
+    memset(w, 0, sizeof *w);
+    memset(w->stamp, 0xFF, sizeof w->stamp);
+}
+
+void in_place_new(struct in_place *m)
+{
+    memset(m, 0, sizeof *m);
+    empty(&m->active_window);
+    empty(&m->static_window);
+}
+
+static bool all_zero(const uint8_t *p, size_t length)
+{
+    /* The first byte is zero, and each is like the one before it. */
+    return p[0] == 0 && memcmp(p, p + 1, length - 1) == 0;
+}
+
+static uint8_t settings_refusal(const uint8_t *s, size_t length)
+{
+    if (length != LATENCY_MONITOR_SETTINGS_LENGTH)
+        return LATENCY_MONITOR_SETTINGS_LENGTH_WRONG;
+    if (!all_zero(s + NAMED_SETTINGS, length - NAMED_SETTINGS))
+        return LATENCY_MONITOR_RESERVED_BYTE;
+    if (s[11] > 1 || s[12] > 1)
+        return LATENCY_MONITOR_FLAG_ABOVE_ONE;
+    if (get16(s) == 0)
+        return LATENCY_MONITOR_NO_TIMER_THRESHOLD;
+    if (s[2] > s[3] || s[3] > s[4] || s[4] > s[5])
+        return LATENCY_MONITOR_THRESHOLD_ORDER;
+    if ((get16(s + 6) | get16(s + 9)) >> LATENCY_MONITOR_COUNTERS)
+        return LATENCY_MONITOR_RESERVED_BIT;
+    return LATENCY_MONITOR_ACCEPTED;
+}
+
+uint8_t in_place_configure(struct in_place *m, const uint8_t *s, size_t length)
+{
+    uint8_t refusal = settings_refusal(s, length);
+
+    if (refusal != LATENCY_MONITOR_ACCEPTED)
+        return refusal;
+    m->timer_threshold = get16(s);
+    memcpy(m->thresholds, s + 2, sizeof m->thresholds);
+    for (int b = 0; b < 4; b++)
+        m->threshold_us[b] = 5000 * (s[2 + b] + 1u);
+    m->mode = get16(s + 6);
+    m->minimum_window = s[8];
+    m->trigger = get16(s + 9);
+    if (s[11])
+        m->debug_held = false;
+    m->enabled = s[12];
+    if (m->enabled) {
+        empty(&m->active_window);
+        empty(&m->static_window);
+        m->timer = 0;
+        m->partial = 0;
+        m->time = 0;
+    }
+    return LATENCY_MONITOR_ACCEPTED;
+}
+
+/* Counts for counter n, and loads its latency stamp if it is due. Says whether it was. */
+static bool count(struct in_place *m, unsigned n, uint16_t ms)
+{
+    struct in_place_window *w = &m->active_window;
+
+    if (w->count[n] != UINT32_MAX)
+        w->count[n]++;
+    if (w->stamp[n] != LATENCY_MONITOR_UNSET
+        && !(m->mode >> n & 1 && ms > w->latency[n] && m->time - m->load_time[n] >= 100u * m->minimum_window))
+        return false;
+    w->stamp[n] = m->clock;
+    w->latency[n] = ms;
+    w->units = (uint16_t)((w->units & ~(1u << n)) | (unsigned)m->host << n);
+    m->load_time[n] = m->time;
+    return true;
+}
+
+/* Takes a debug log if counter n triggers one and none is held. Says whether it did. */
+static bool debug(struct in_place *m, unsigned n, uint16_t ms)
+{
+    if (!(m->trigger >> n & 1) || m->debug_held)
+        return false;
+    m->debug_held = true;
+    m->debug_latency = ms;
+    m->debug_counter = (uint8_t)n;
+    m->debug_units = m->host;
+    m->debug_stamp = m->clock;
+    return true;
+}
+
+/* The answer as a number: that is made in a register, where gcc takes a small struct through memory. */
+static uint64_t completed(struct in_place *m, uint8_t opcode, uint32_t us)
+{
+    uint32_t ms = us / 1000;
+    unsigned kind, bucket = 3, n;
+    uint64_t loaded, logged;
+
+    if (!m->enabled || us < m->threshold_us[0])
+        return 0;
+    switch (opcode) {
+    case 0x02: kind = 0; break;
+    case 0x01: kind = 1; break;
+    case 0x09: kind = 2; break;
+    default: return 0;
+    }
+    while (us < m->threshold_us[bucket])
+        bucket--;
+    n = 3 * bucket + kind;
+    if (ms > UINT16_MAX)
+        ms = UINT16_MAX;
+    loaded = count(m, n, (uint16_t)ms);
+    logged = debug(m, n, (uint16_t)ms);
+    return (uint64_t)n << AT(counter) | UINT64_C(1) << AT(counted) | loaded << AT(loaded)
+        | logged << AT(debug);
+}
+
+struct latency_monitor_completion_answer in_place_completion(
+    struct in_place *m, struct latency_monitor_command command)
+{
+    union {
+        uint64_t number;
+        struct latency_monitor_completion_answer answer;
+    } u = {completed(m, command.opcode, command.latency)};
+
+    return u.answer;
+}
+
+struct latency_monitor_elapsed_answer in_place_elapsed(struct in_place *m, uint32_t ms)
+{
+    struct latency_monitor_elapsed_answer answer = {LATENCY_MONITOR_ACCEPTED, false};
+
+    if (ms > INCREMENT_MS) {
+        answer.refusal = LATENCY_MONITOR_ELAPSED_TIME;
+        return answer;
+    }
+    m->clock += ms;
+    if (m->clock > CLOCK_TOP)
+        m->clock = CLOCK_TOP;
+    if (!m->enabled)
+        return answer;
+    m->time += ms;
+    m->partial += ms;
+    if (m->partial < INCREMENT_MS)
+        return answer;
+    m->partial -= INCREMENT_MS;
+    if (++m->timer == m->timer_threshold) {
+        m->timer = 0;
+        m->static_window = m->active_window;
+        empty(&m->active_window);
+        answer.ended = true;
+    }
+    return answer;
+}
+
+uint8_t in_place_set_clock(struct in_place *m, uint64_t ms)
+{
+    if (ms > CLOCK_TOP)
+        return LATENCY_MONITOR_CLOCK_VALUE;
+    m->clock = ms;
+    m->host = true;
+    return LATENCY_MONITOR_ACCEPTED;
+}
+
+uint8_t in_place_power_up(struct in_place *m)
+{
+    m->clock = 0;
+    m->host = false;
+    return LATENCY_MONITOR_ACCEPTED;
+}
+
+static void put_window(uint8_t *p, const struct in_place_window *w)
+{
+    for (int b = 0; b < 4; b++) {
+        put32(p + 16 * b + 4, w->count[3 * b + 2]);
+        put32(p + 16 * b + 8, w->count[3 * b + 1]);
+        put32(p + 16 * b + 12, w->count[3 * b]);
+    }
+    for (int n = 0; n < LATENCY_MONITOR_COUNTERS; n++) {
+        put64(p + 64 + 8 * (LATENCY_MONITOR_COUNTERS - 1 - n), w->stamp[n]);
+        put16(p + 160 + 2 * (LATENCY_MONITOR_COUNTERS - 1 - n), w->latency[n]);
+    }
+    put16(p + 184, w->units);
+}
+
+static void put_debug(uint8_t *p, const struct in_place *m)
+{
+    put64(p + 452, LATENCY_MONITOR_UNSET);
+    if (m->debug_held) {
+        put16(p + 450, m->debug_latency);
+        put64(p + 452, m->debug_stamp);
+        put16(p + 462, (uint16_t)(1u << m->debug_counter));
+        p[464] = m->debug_units;
+    }
+}
+
+uint8_t in_place_page(const struct in_place *m, uint8_t *p, size_t length)
+{
+    static const uint8_t guid[16] = {
+        0x92, 0x7A, 0xC0, 0x8C, 0xD0, 0x84, 0x6C, 0x9C,
+        0x70, 0x43, 0xE6, 0xD4, 0x58, 0x5E, 0xD4, 0x85
+    };
+
+    if (length != LATENCY_MONITOR_PAGE_LENGTH)
+        return LATENCY_MONITOR_PAGE_LENGTH_WRONG;
+    memset(p, 0, length);
+    p[0] = m->enabled;
+    put16(p + 2, m->timer);
+    put16(p + 4, m->timer_threshold);
+    memcpy(p + 6, m->thresholds, sizeof m->thresholds);
+    put16(p + 10, m->mode);
+    p[12] = m->minimum_window;
+    put_window(p + 32, &m->active_window);
+    put_window(p + 240, &m->static_window);
+    put16(p + 448, m->trigger);
+    put_debug(p, m);
+    put16(p + 494, 0x0004);
+    memcpy(p + 496, guid, sizeof guid);
+    return LATENCY_MONITOR_ACCEPTED;
+}
+
+uint8_t in_place_settings_back(const struct in_place *m, uint8_t *s, size_t length)
+{
+    if (length != LATENCY_MONITOR_SETTINGS_LENGTH)
+        return LATENCY_MONITOR_SETTINGS_BACK_LENGTH;
+    memset(s, 0, length);
+    put16(s, m->timer_threshold);
+    memcpy(s + 2, m->thresholds, sizeof m->thresholds);
+    put16(s + 6, m->mode);
+    s[8] = m->minimum_window;
+    put16(s + 9, m->trigger);
+    s[12] = m->enabled;
+    return LATENCY_MONITOR_ACCEPTED;
+}

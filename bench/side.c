@@ -1,0 +1,97 @@
+/* One side: its record, and the loops over its calls. It is compiled for each side, with SIDE as the side's name. */
+
+#include "side.h"
+
+#include <string.h>
+
+#ifdef IN_PLACE
+#include "in_place.h"
+#define CALL(name) in_place_##name
+static _Alignas(64) struct in_place record;
+#else
+#define CALL(name) latency_monitor_##name
+static _Alignas(64) struct latency_monitor record;
+#endif
+
+static _Alignas(64) uint8_t settings[LATENCY_MONITOR_SETTINGS_LENGTH];
+static _Alignas(64) uint8_t page[LATENCY_MONITOR_PAGE_LENGTH];
+
+/* A number is kept in a register; gcc takes a small struct through memory. */
+static uint64_t completion_number(struct latency_monitor_completion_answer a)
+{
+    return a.counter | (uint64_t)a.counted << COUNTED_AT | (uint64_t)a.loaded << LOADED_AT
+        | (uint64_t)a.debug << LOGGED_AT;
+}
+
+static uint64_t elapsed_number(struct latency_monitor_elapsed_answer a)
+{
+    return a.refusal | (uint64_t)a.ended << ENDED_AT;
+}
+
+static const uint8_t *whole(const struct named_settings *named)
+{
+    return memcpy(settings, named->bytes, sizeof named->bytes);
+}
+
+static uint64_t once(const struct stroke *s)
+{
+    switch (s->call) {
+    case EMPTY_COMPLETION: return completion_number(empty_completion(&record, s->command));
+    case NEW: CALL(new)(&record); return 0;
+    case CONFIGURE: return CALL(configure)(&record, whole(&s->settings), sizeof settings);
+    case COMPLETION: return completion_number(CALL(completion)(&record, s->command));
+    case ELAPSED: return elapsed_number(CALL(elapsed)(&record, s->ms));
+    case SET_CLOCK: return CALL(set_clock)(&record, s->clock);
+    case POWER_UP: return CALL(power_up)(&record);
+    case PAGE: return CALL(page)(&record, page, sizeof page);
+    case SETTINGS_BACK: return CALL(settings_back)(&record, settings, sizeof settings);
+    default: return empty_number(&record);
+    }
+}
+
+#define LAP(name, answer)                               \
+    static uint64_t name(const struct work *w)          \
+    {                                                   \
+        uint64_t sum = 0;                               \
+                                                        \
+        for (size_t i = 0, n = w->calls; i < n; i++)    \
+            sum += (answer);                            \
+        return sum;                                     \
+    }
+
+LAP(empty_completion_lap, completion_number(empty_completion(&record, w->commands[i])))
+LAP(empty_number_lap, empty_number(&record))
+LAP(new_lap, (CALL(new)(&record), 0u))
+LAP(configure_lap, CALL(configure)(&record, whole(&w->settings[i]), sizeof settings))
+LAP(completion_lap, completion_number(CALL(completion)(&record, w->commands[i])))
+LAP(elapsed_lap, elapsed_number(CALL(elapsed)(&record, w->ms[i])))
+LAP(set_clock_lap, CALL(set_clock)(&record, w->clocks[i]))
+LAP(power_up_lap, CALL(power_up)(&record))
+LAP(page_lap, CALL(page)(&record, page, sizeof page))
+LAP(settings_back_lap, CALL(settings_back)(&record, settings, sizeof settings))
+
+static uint64_t run(const struct work *w, size_t laps)
+{
+    static uint64_t (*const lap[CALLS])(const struct work *) = {
+        [EMPTY_COMPLETION] = empty_completion_lap, [EMPTY_NUMBER] = empty_number_lap, [NEW] = new_lap,
+        [CONFIGURE] = configure_lap, [COMPLETION] = completion_lap, [ELAPSED] = elapsed_lap,
+        [SET_CLOCK] = set_clock_lap, [POWER_UP] = power_up_lap, [PAGE] = page_lap,
+        [SETTINGS_BACK] = settings_back_lap
+    };
+    uint64_t sum = 0;
+
+    while (laps--) {
+        if (w->lap_ms > 0)
+            sum += elapsed_number(CALL(elapsed)(&record, w->lap_ms)) << LAP_TIME_AT;
+        sum += lap[w->call](w);
+    }
+    return sum;
+}
+
+static void show(uint8_t *p, uint8_t *s)
+{
+    CALL(page)(&record, p, LATENCY_MONITOR_PAGE_LENGTH);
+    CALL(settings_back)(&record, s, LATENCY_MONITOR_SETTINGS_LENGTH);
+}
+
+const struct side SIDE = {sizeof record, once, run, show};
