@@ -6,8 +6,8 @@
  * record, so calls on distinct records may run at the same time. Calls on one record must not, and no two pointers of
  * a call may overlap.
  *
- * A call that is turned away answers with its refusal number and leaves record and buffer as they were. No call asks
- * anything else of its caller: any number and any length may be passed.
+ * A call that is turned away answers with its refusal number and leaves record and buffer as they were. Any number may
+ * be passed, and a buffer of any length, with its own length beside it. No pointer may be null.
  */
 #ifndef LATENCY_MONITOR_H
 #define LATENCY_MONITOR_H
