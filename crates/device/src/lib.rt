@@ -36,7 +36,8 @@ pub extern "C" fn latency_monitor_configure(m: &mut Monitor, s: &[u8]) -> u8
     replies::refusal(o.answer)
 }
 
-// A completed command. The record is stored in each arm, so that the compiled ways stay apart and write what they change.
+// A completed command. The record is stored in each arm, so that the compiled ways stay apart and write what they
+// change.
 #[no_mangle]
 pub extern "C" fn latency_monitor_completion(m: &mut Monitor, c: Completion) -> CompletionReply
     ensures next { λ _. ⌜ now (m .exit) ≡ afterCompletion (now (m .entry)) c ⌝ }

@@ -44,7 +44,8 @@ fn clear(r: &[u8], from: usize, to: usize, rest: usize) -> bool
 
 // Whether a record is of a kind, with the bytes that the kind leaves unnamed zero.
 fn is_kind(r: &[u8], kind: u8, from: usize, to: usize, rest: usize) -> bool
-    requires { ⌜ (0 < length (now r)) × (from ≤ to) × (to ≤ rest) × (rest ≤ length (now r)) × (to ≤ from + 8) × (length (now r) ≤ rest + 8) ⌝ }
+    requires { ⌜ 0 < length (now r) ⌝ }
+    requires { ⌜ (from ≤ to) × (to ≤ rest) × (rest ≤ length (now r)) × (to ≤ from + 8) × (length (now r) ≤ rest + 8) ⌝ }
     ensures { λ b. ⌜ b ≡ isKind kind from to rest (now (r .entry)) ⌝ }
 {
     if r[0] == kind {

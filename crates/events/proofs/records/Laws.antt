@@ -168,7 +168,8 @@ module _ (r : List ℕ) (sixteen : length r ≡ 16) where
   pub completion-call : isCompletion r ≡ true → callOf r ≡ some (completion (completionOf r))
   unfolding callOfKind isCompletion
   completion-call h =
-      let is = is-kind 2 (unnamed 2 4 8 r) h in known-call 2 (unnamed 2 4 8 r) (completion (completionOf r)) refl (is .0) (is .1)
+      let is = is-kind 2 (unnamed 2 4 8 r) h in
+      known-call 2 (unnamed 2 4 8 r) (completion (completionOf r)) refl (is .0) (is .1)
 
   pub elapsed-call :
       (ms : ℕ) →

@@ -12,7 +12,8 @@ use lib.Dec.{eqb}
 use lib.ListN.{getD}
 use Rattle.logpage.specs.declared.Settings.{Settings}
 use Rattle.monitor.specs.declared.commands.Completion.{Completion}
-use Rattle.monitor.specs.Commands.{highestBelow, reaches, reachesA, bucketOf, kindOf, counterAt, counterOf, saysCounter}
+use Rattle.monitor.specs.Commands.{highestBelow, reaches, reachesA, bucketOf, kindOf, counterAt, counterOf}
+use Rattle.monitor.specs.Commands.{saysCounter}
 
 -- one step of the search down
 module _ (thresholds : List ℕ) (us : ℕ) where

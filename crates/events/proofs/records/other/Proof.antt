@@ -3,7 +3,8 @@ use mathlib.Core.Path.{refl, sym, _∙_}
 use Rattle.monitor.specs.History.{powerUp}
 use Rattle.monitor.specs.Record.{settingsReply, clockReply}
 use Rattle.events.specs.Records.{callOfKind}
-use Rattle.events.proofs.records.Laws.{stands-for, stands-for-none, known-call, no-call, clock-call, unknown-kind}
+use Rattle.events.proofs.records.Laws.{stands-for, stands-for-none, known-call, no-call, clock-call}
+use Rattle.events.proofs.records.Laws.{unknown-kind}
 use borrow.Author.Needs.{needs}
 use Rattle.events.proofs.records.other.Statement.{statement}
 use Rattle.events.proofs.records.other.Tie as tie

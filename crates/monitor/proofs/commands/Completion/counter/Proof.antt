@@ -23,7 +23,8 @@ kind-requires c κs = search needs
 
 counter-at-requires : tie.Need-counter-at-requires
 counter-at-requires c κs =
-    bucket-few _ _ _ (sym (c .before .before .before .before .bucket .ensures) ∙ ap saysBucket (c .before .before .b .given .1))
+    let at-bucket = c .before .before .before .before in
+    bucket-few _ _ _ (sym (at-bucket .bucket .ensures) ∙ ap saysBucket (c .before .before .b .given .1))
 
 enum-told : tie.Need-enum-told
 enum-told c = search needs
@@ -31,17 +32,19 @@ enum-told c = search needs
 returns : tie.Need-returns
 unfolding counterOf
 returns c =
-    let past-a = c .before .before .before .before .before .before in
-    let in-bucket = sym (c .before .before .before .before .before .bucket .ensures) ∙ ap saysBucket (c .before .before .before .b .given .1) in
-    rw (past-a .before .before .before .if1 .taken, sym (past-a .before .reaches .ensures) ∙ past-a .if2 .taken, in-bucket, ← c .before .kind .ensures)
-    (c .counter-at .ensures)
+    let at-bucket = c .before .before .before .before .before in
+    let past-a = at-bucket .before in
+    let above = sym (past-a .before .reaches .ensures) ∙ past-a .if2 .taken in
+    let in-bucket = sym (at-bucket .bucket .ensures) ∙ ap saysBucket (c .before .before .before .b .given .1) in
+    rw (past-a .before .before .before .if1 .taken, above, in-bucket, ← c .before .kind .ensures) (c .counter-at .ensures)
 
 returns-2 : tie.Need-returns-2
 unfolding counterOf
 returns-2 c =
     let past-a = c .before .before .before in
+    let above = sym (past-a .before .reaches .ensures) ∙ past-a .if2 .taken in
     let below = sym (c .before .before .bucket .ensures) ∙ ap saysBucket (c .enum-told .given .1) in
-    rw (past-a .before .before .before .if1 .taken, sym (past-a .before .reaches .ensures) ∙ past-a .if2 .taken, below)
+    rw (past-a .before .before .before .if1 .taken, above, below)
 
 returns-3 : tie.Need-returns-3
 unfolding counterOf

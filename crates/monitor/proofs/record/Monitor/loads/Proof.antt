@@ -40,8 +40,8 @@ returns-2 : tie.Need-returns-2
 unfolding loads
 returns-2 c =
     let at-mode = c .before .before .before .before in
-    rw (ne-eqb _ _ (at-mode .before .before .if1 .left), ← at-mode .before .bit .ensures, at-mode .if2 .taken, ← c .before .in-window .ensures)
-    (c .exceeds .ensures)
+    let set = ne-eqb _ _ (at-mode .before .before .if1 .left) in
+    rw (set, ← at-mode .before .bit .ensures, at-mode .if2 .taken, ← c .before .in-window .ensures) (c .exceeds .ensures)
 
 returns-3 : tie.Need-returns-3
 unfolding loads
