@@ -5,14 +5,14 @@
 set -euo pipefail
 top=$(cd "$(dirname "$0")/.." && pwd)
 bench=$top/bench
-archive=$top/target/staticlib/libdevice.a
+archive=$top/target/staticlib/liblatency_monitor.a
 ROUNDS=${1:-31}
 
 folder=$(mktemp -d)
 trap 'rm -rf "$folder"' EXIT
 cd "$folder"
 
-(cd "$top" && rt staticlib device) > say 2>&1 || { cat say >&2; exit 1; }
+(cd "$top" && rt staticlib latency_monitor) > say 2>&1 || { cat say >&2; exit 1; }
 
 compile() {
     gcc -Wall -Wextra -Werror -pedantic -I "$top/include" "$@"

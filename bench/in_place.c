@@ -109,7 +109,7 @@ static bool count(struct in_place *m, unsigned n, uint16_t ms)
         return false;
     w->stamp[n] = m->clock;
     w->latency[n] = ms;
-    w->units = (uint16_t)((w->units & ~(1u << n)) | (unsigned)m->host << n);
+    w->units = (uint16_t)((w->units & ~(1u << n)) | (unsigned)m->host_set << n);
     m->load_time[n] = m->time;
     return true;
 }
@@ -122,7 +122,7 @@ static bool debug(struct in_place *m, unsigned n, uint16_t ms)
     m->debug_held = true;
     m->debug_latency = ms;
     m->debug_counter = (uint8_t)n;
-    m->debug_units = m->host;
+    m->debug_units = m->host_set;
     m->debug_stamp = m->clock;
     return true;
 }
@@ -196,14 +196,14 @@ uint8_t in_place_set_clock(struct in_place *m, uint64_t ms)
     if (ms > CLOCK_TOP)
         return LATENCY_MONITOR_CLOCK_VALUE;
     m->clock = ms;
-    m->host = true;
+    m->host_set = true;
     return LATENCY_MONITOR_ACCEPTED;
 }
 
 uint8_t in_place_power_up(struct in_place *m)
 {
     m->clock = 0;
-    m->host = false;
+    m->host_set = false;
     return LATENCY_MONITOR_ACCEPTED;
 }
 

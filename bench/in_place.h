@@ -22,7 +22,7 @@ struct in_place {
     uint16_t trigger;
     uint8_t minimum_window;
     bool enabled;
-    bool host;
+    bool host_set;
     bool debug_held;
     bool debug_units;
     uint8_t debug_counter;

@@ -2,19 +2,19 @@
 # Builds the C library and tests it as its users see it: symbols, header, a C program, the Rust wrapper, and the
 # comparison with reference/.
 #   host/run.sh
-# LATENCY_MONITOR_LIB may name the folder of a libdevice.a to test in place of the repository's own.
+# LATENCY_MONITOR_LIB may name the folder of a liblatency_monitor.a to test in place of the repository's own.
 set -euo pipefail
 top=$(cd "$(dirname "$0")/.." && pwd)
 export CARGO_TARGET_DIR=$top/target/host
 mkdir -p "$CARGO_TARGET_DIR"
 
 if [ -z "${LATENCY_MONITOR_LIB:-}" ]; then
-    (cd "$top" && rt staticlib device)
+    (cd "$top" && rt staticlib latency_monitor)
     LATENCY_MONITOR_LIB=$top/target/staticlib
 fi
 LATENCY_MONITOR_LIB=$(cd "$LATENCY_MONITOR_LIB" && pwd)
 export LATENCY_MONITOR_LIB
-archive=$LATENCY_MONITOR_LIB/libdevice.a
+archive=$LATENCY_MONITOR_LIB/liblatency_monitor.a
 
 # none WHAT: fails if there are lines to read.
 none() {

@@ -80,7 +80,7 @@ struct latency_monitor_debug_log {
 struct latency_monitor {
     struct latency_monitor_settings settings;
     uint16_t timer;   /* Active Bucket Timer, in increments of five minutes */
-    bool host;        /* whether the host set the clock */
+    bool host_set;    /* whether the host set the clock */
     uint32_t partial; /* time since the timer's last increment, in ms */
     uint64_t clock;   /* in ms */
     uint64_t loaded[LATENCY_MONITOR_COUNTERS]; /* time in the active window at the stamp's last load, in ms */
@@ -167,7 +167,7 @@ LATENCY_MONITOR_AT(latency_monitor_debug_log, units, 12);
 LATENCY_MONITOR_SIZE(latency_monitor, 512);
 LATENCY_MONITOR_AT(latency_monitor, settings, 0);
 LATENCY_MONITOR_AT(latency_monitor, timer, 12);
-LATENCY_MONITOR_AT(latency_monitor, host, 14);
+LATENCY_MONITOR_AT(latency_monitor, host_set, 14);
 LATENCY_MONITOR_AT(latency_monitor, partial, 16);
 LATENCY_MONITOR_AT(latency_monitor, clock, 24);
 LATENCY_MONITOR_AT(latency_monitor, loaded, 32);

@@ -1,4 +1,4 @@
-//! Links the archive that `rt staticlib device` writes.
+//! Links the archive that `rt staticlib latency_monitor` writes.
 
 use std::env;
 use std::path::{Path, PathBuf};
@@ -9,14 +9,14 @@ const FOLDER: &str = "LATENCY_MONITOR_LIB";
 fn main() {
     println!("cargo::rerun-if-env-changed={FOLDER}");
     let folder = env::var_os(FOLDER).map_or_else(repositorys, PathBuf::from);
-    let archive = folder.join("libdevice.a");
+    let archive = folder.join("liblatency_monitor.a");
     println!("cargo::rerun-if-changed={}", archive.display());
     if !archive.is_file() {
-        println!("cargo::error=no {}: run `rt staticlib device`, or name its folder in {FOLDER}", archive.display());
+        println!("cargo::error=no {}: run `rt staticlib latency_monitor`, or name its folder in {FOLDER}", archive.display());
         return;
     }
     println!("cargo::rustc-link-search=native={}", folder.display());
-    println!("cargo::rustc-link-lib=static=device");
+    println!("cargo::rustc-link-lib=static=latency_monitor");
 }
 
 fn repositorys() -> PathBuf {

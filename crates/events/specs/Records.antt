@@ -7,17 +7,17 @@ use lib.Dec.{eqb}
 use lib.ListN.{length, getD, take, drop, replicate}
 use Rattle.endian.specs.Bytes.{anySet}
 use Rattle.endian.specs.Loads.{number}
-use Rattle.monitor.specs.declared.commands.Completion.{Completion}
+use Rattle.monitor.specs.declared.commands.Command.{Command}
 use Rattle.monitor.specs.declared.record.Monitor.{Monitor}
-use Rattle.monitor.specs.Answers.{Reply, refused, done, unlessRefused}
+use Rattle.monitor.specs.Answers.{CallAnswer, refused, done, unlessRefused}
 use Rattle.monitor.specs.History.{Call, settings, completion, elapsed, clock, powerUp, History, playFrom, refusalOf}
 use Rattle.monitor.specs.History.{found, andThen, orElse}
-use Rattle.events.specs.declared.files.Place.{Place}
-use Rattle.events.specs.declared.files.Place.the-variants as place
+use Rattle.events.specs.declared.files.Halt.{Halt}
+use Rattle.events.specs.declared.files.Halt.the-variants as halt
 
 -- Byte 0 is the kind.
-abbrev pub kindOf : List ℕ → ℕ
-kindOf r = getD r 0 0
+abbrev pub recordKind : List ℕ → ℕ
+recordKind r = getD r 0 0
 
 -- the bytes from a place up to another
 abbrev pub part : (from to : ℕ) → List ℕ → List ℕ
@@ -32,12 +32,12 @@ abbrev ifClear : List ℕ → Call → Option Call
 ifClear bytes c = cond (anySet bytes) none (some c)
 
 -- 1 settings: bytes 1-13 are settings bytes 0-12, and the others of the 4,096 are zero
-unfoldable pub settingsOf : List ℕ → List ℕ
-settingsOf r = part 1 14 r ++ replicate 4083 0
+unfoldable pub settingsBytes : List ℕ → List ℕ
+settingsBytes r = part 1 14 r ++ replicate 4083 0
 
 -- 2 completion: byte 1 opcode, 4-7 latency
-unfoldable pub completionOf : List ℕ → Completion
-completionOf r = record { opcode = getD r 1 0; latency = number (part 4 8 r) }
+unfoldable pub commandOf : List ℕ → Command
+commandOf r = record { opcode = getD r 1 0; latency = number (part 4 8 r) }
 
 -- 3 elapsed: 4-7; 4 clock: 4-11
 unfoldable pub elapsedOf : List ℕ → ℕ
@@ -49,19 +49,19 @@ clockOf r = number (part 4 12 r)
 -- a record of 16 bytes by its kind, each with the bytes that it leaves unnamed; 5 is power-up
 unfoldable pub callOfKind : ℕ → List ℕ → Option Call
 callOfKind kind r =
-    cond (eqb kind 1) (ifClear (unnamed 14 16 16 r) (settings (settingsOf r)))
-    (cond (eqb kind 2) (ifClear (unnamed 2 4 8 r) (completion (completionOf r)))
+    cond (eqb kind 1) (ifClear (unnamed 14 16 16 r) (settings (settingsBytes r)))
+    (cond (eqb kind 2) (ifClear (unnamed 2 4 8 r) (completion (commandOf r)))
     (cond (eqb kind 3) (ifClear (unnamed 1 4 8 r) (elapsed (elapsedOf r)))
     (cond (eqb kind 4) (ifClear (unnamed 1 4 12 r) (clock (clockOf r)))
     (cond (eqb kind 5) (ifClear (unnamed 1 8 8 r) powerUp) none))))
 
 -- the call that a record stands for, if any
 unfoldable pub callOf : List ℕ → Option Call
-callOf r = cond (eqb (length r) 16) (callOfKind (kindOf r) r) none
+callOf r = cond (eqb (length r) 16) (callOfKind (recordKind r) r) none
 
 -- a record of a kind, with the bytes that the kind leaves unnamed zero
 abbrev pub isKind : (kind from to rest : ℕ) → List ℕ → Bool
-isKind kind from to rest r = eqb (kindOf r) kind && not (anySet (unnamed from to rest r))
+isKind kind from to rest r = eqb (recordKind r) kind && not (anySet (unnamed from to rest r))
 
 unfoldable pub isCompletion : List ℕ → Bool
 isCompletion = isKind 2 2 4 8
@@ -73,8 +73,8 @@ isElapsed = isKind 3 1 4 8
 unfoldable pub recordRefusal : List ℕ → Option ℕ
 recordRefusal r = found (some 11) refusalOf (callOf r)
 
-unfoldable pub recordReply : List ℕ → Reply
-recordReply r = unlessRefused (recordRefusal r) done
+unfoldable pub recordAnswer : List ℕ → CallAnswer
+recordAnswer r = unlessRefused (recordRefusal r) done
 
 -- what a record leaves of a monitor
 unfoldable pub afterRecord : Monitor → List ℕ → Monitor
@@ -121,9 +121,9 @@ unfoldable pub acceptedRecords : List ℕ → ℕ
 acceptedRecords s = found (wholeRecords s) (λ (r : Refusal). r .index) (firstRefused s)
 
 -- what the code's places say
-abbrev pub saysPlace : Place → Option Refusal
-saysPlace (place.Refused i n) = some (record { index = i; number = n })
-saysPlace place.End = none
+abbrev pub saysHalt : Halt → Option Refusal
+saysHalt (halt.Refused i n) = some (record { index = i; number = n })
+saysHalt halt.End = none
 
 -- 1 to 15 bytes left over: 12
 unfoldable pub endRefusal : ℕ → Option ℕ

@@ -46,7 +46,7 @@ textOf page = lines page 30
 
 -- a text in a room of 30 lines of 38 bytes; what it leaves free is zero
 unfoldable pub asText : List ℕ → Text
-asText t = record { bytes = t ++ replicate (1140 - length t) 0; length = length t }
+asText t = record { bytes = t ++ replicate (1140 - length t) 0; len = length t }
 
 -- storing t from a place on: what the bytes are after, and the number of bytes it took, at most `room`
 pub record Stored (t : List ℕ) (at room : ℕ) (before after : List ℕ) (took : ℕ) : Type 0 where

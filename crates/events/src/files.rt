@@ -3,39 +3,39 @@ ghost use mathlib.Core.Path.{_≡_};
 ghost use mathlib.Core.Option.{some};
 ghost use Rattle.monitor.specs.Answers.{saysAnswer, unlessRefused, done};
 ghost use Rattle.monitor.specs.History.{playFrom};
-ghost use Rattle.events.specs.Records.{afterRecord, recordReply, callsBefore, historyOf, firstRefused};
-ghost use Rattle.events.specs.Records.{acceptedRecords, refusalAt, saysPlace, endRefusal};
+ghost use Rattle.events.specs.Records.{afterRecord, recordAnswer, callsBefore, historyOf, firstRefused};
+ghost use Rattle.events.specs.Records.{acceptedRecords, refusalAt, saysHalt, endRefusal};
 use crate::records;
 use monitor::Answer;
 use monitor::Monitor;
 use monitor::NOT_COUNTED;
 use monitor::Outcome;
 
-// Where a run stopped: at a refused record, with its number from 0 and the refusal, or at the end.
-pub enum Place {
+// Why a run stopped: at a refused record, with its number from 0 and the refusal, or at the end.
+pub enum Halt {
     Refused { index: usize, number: u8 },
     End,
 }
 
 pub struct Stop {
     pub monitor: Monitor,
-    pub at: Place,
+    pub halt: Halt,
 }
 
 // Stopped at a refused record.
 fn refused_at(monitor: Monitor, index: usize, number: u8) -> Stop
     ensures monitor { λ r. ⌜ r .monitor ≡ monitor ⌝ }
-    ensures at { λ r. ⌜ saysPlace (r .at) ≡ refusalAt index (some number) ⌝ }
+    ensures halt { λ r. ⌜ saysHalt (r .halt) ≡ refusalAt index (some number) ⌝ }
 {
-    let at = Place::Refused { index, number };
-    Stop { monitor, at }
+    let halt = Halt::Refused { index, number };
+    Stop { monitor, halt }
 }
 
 // The whole records of a slice, up to the first that is refused. Completions and elapsed time are most of them, and
 // have a way of their own through the loop, for speed.
 pub fn run(m: Monitor, s: &[u8]) -> Stop
     ensures monitor { λ r. ⌜ r .monitor ≡ playFrom m (callsBefore (now (s .entry)) (acceptedRecords (now (s .entry)))) ⌝ }
-    ensures at { λ r. ⌜ saysPlace (r .at) ≡ firstRefused (now (s .entry)) ⌝ }
+    ensures halt { λ r. ⌜ saysHalt (r .halt) ≡ firstRefused (now (s .entry)) ⌝ }
 {
     let mut monitor = m;
     let mut i = 0;
@@ -43,7 +43,7 @@ pub fn run(m: Monitor, s: &[u8]) -> Stop
         let from = records::RECORD * i;
         let r = &s[from..from + records::RECORD];
         if records::is_completion(r) {
-            let c = records::completion(r);
+            let c = records::command(r);
             let settings = monitor.settings;
             // Most completions count for nothing, which leaves the monitor as it is: they are spared the call.
             if c.counter(settings) == NOT_COUNTED {
@@ -71,25 +71,25 @@ pub fn run(m: Monitor, s: &[u8]) -> Stop
             i += 1;
         }
     }
-    let at = Place::End;
-    Stop { monitor, at }
+    let halt = Halt::End;
+    Stop { monitor, halt }
 }
 
 // One record.
 pub fn apply(m: Monitor, r: &[u8]) -> Outcome
     ensures next { λ o. ⌜ o .next ≡ afterRecord m (now (r .entry)) ⌝ }
-    ensures answer { λ o. ⌜ saysAnswer (o .answer) ≡ recordReply (now (r .entry)) ⌝ }
+    ensures answer { λ o. ⌜ saysAnswer (o .answer) ≡ recordAnswer (now (r .entry)) ⌝ }
 {
     if r.len() == records::RECORD {
         let stop = run(m, r);
         let next = stop.monitor;
-        let at = stop.at;
-        match at {
-            Place::Refused { index: _, number } => {
+        let halt = stop.halt;
+        match halt {
+            Halt::Refused { index: _, number } => {
                 let answer = Answer::Refused(number);
                 Outcome { next, answer }
             }
-            Place::End => {
+            Halt::End => {
                 let answer = Answer::Done;
                 Outcome { next, answer }
             }
@@ -110,12 +110,12 @@ pub fn replay(m: Monitor, s: &[u8]) -> Monitor
         let from = records::RECORD * i;
         let stop = run(monitor, &s[from..]);
         monitor = stop.monitor;
-        let at = stop.at;
-        match at {
-            Place::Refused { index, number: _ } => {
+        let halt = stop.halt;
+        match halt {
+            Halt::Refused { index, number: _ } => {
                 i = i + index + 1;
             }
-            Place::End => {
+            Halt::End => {
                 break;
             }
         }

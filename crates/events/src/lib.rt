@@ -3,7 +3,7 @@ mod files;
 mod records;
 mod text;
 
-pub use files::Place;
+pub use files::Halt;
 pub use files::Stop;
 pub use files::apply;
 pub use files::left_over;

@@ -5,11 +5,11 @@ ghost use Prim.Native.Nat.{_+_, _≤_, _<_};
 ghost use lib.ListN.{length, replicate};
 ghost use Rattle.endian.specs.Bytes.{anySet};
 ghost use Rattle.monitor.specs.Answers.{saysAnswer, refused};
-ghost use Rattle.monitor.specs.Record.{afterSettings, settingsReply};
-ghost use Rattle.events.specs.Records.{unnamed, settingsOf, completionOf, isKind, isCompletion, isElapsed};
-ghost use Rattle.events.specs.Records.{afterRecord, recordReply};
+ghost use Rattle.monitor.specs.Record.{afterSettings, settingsAnswer};
+ghost use Rattle.events.specs.Records.{unnamed, settingsBytes, commandOf, isKind, isCompletion, isElapsed};
+ghost use Rattle.events.specs.Records.{afterRecord, recordAnswer};
 use monitor::Answer;
-use monitor::Completion;
+use monitor::Command;
 use monitor::ElapsedAnswer;
 use monitor::Monitor;
 use monitor::Outcome;
@@ -72,11 +72,11 @@ pub(crate) fn is_elapsed(r: &[u8]) -> bool
 }
 
 // What a completion's record brings.
-pub(crate) fn completion(r: &[u8]) -> Completion
+pub(crate) fn command(r: &[u8]) -> Command
     requires { ⌜ length (now r) ≡ 16 ⌝ }
-    ensures { λ c. ⌜ c ≡ completionOf (now (r .entry)) ⌝ }
+    ensures { λ c. ⌜ c ≡ commandOf (now (r .entry)) ⌝ }
 {
-    Completion {
+    Command {
         opcode: r[1],
         latency: endian::load(&r[4..8]) as u32,
     }
@@ -92,7 +92,7 @@ fn zeros() -> [u8; 4096]
 // Settings bytes 0 to 12 from the record, the others zero.
 fn settings_bytes(r: &[u8]) -> [u8; 4096]
     requires { ⌜ length (now r) ≡ 16 ⌝ }
-    ensures { λ s. ⌜ s ≡ settingsOf (now (r .entry)) ⌝ }
+    ensures { λ s. ⌜ s ≡ settingsBytes (now (r .entry)) ⌝ }
 {
     let mut s = zeros();
     let mut i = 0;
@@ -106,8 +106,8 @@ fn settings_bytes(r: &[u8]) -> [u8; 4096]
 // The record's settings, brought to the monitor.
 fn configured(m: Monitor, r: &[u8]) -> Outcome
     requires { ⌜ length (now r) ≡ 16 ⌝ }
-    ensures next { λ o. ⌜ o .next ≡ afterSettings m (settingsOf (now (r .entry))) ⌝ }
-    ensures answer { λ o. ⌜ saysAnswer (o .answer) ≡ settingsReply (settingsOf (now (r .entry))) ⌝ }
+    ensures next { λ o. ⌜ o .next ≡ afterSettings m (settingsBytes (now (r .entry))) ⌝ }
+    ensures answer { λ o. ⌜ saysAnswer (o .answer) ≡ settingsAnswer (settingsBytes (now (r .entry))) ⌝ }
 {
     let s = settings_bytes(r);
     m.configure(&s)
@@ -117,7 +117,7 @@ fn configured(m: Monitor, r: &[u8]) -> Outcome
 pub(crate) fn elapsed(m: Monitor, r: &[u8]) -> Outcome
     requires { ⌜ (length (now r) ≡ 16) × (isElapsed (now r) ≡ true) ⌝ }
     ensures next { λ o. ⌜ o .next ≡ afterRecord m (now (r .entry)) ⌝ }
-    ensures answer { λ o. ⌜ saysAnswer (o .answer) ≡ recordReply (now (r .entry)) ⌝ }
+    ensures answer { λ o. ⌜ saysAnswer (o .answer) ≡ recordAnswer (now (r .entry)) ⌝ }
 {
     let o = m.elapsed(endian::load(&r[4..8]) as u32);
     let next = o.next;
@@ -151,7 +151,7 @@ fn unknown(m: Monitor) -> Outcome
 pub(crate) fn other(m: Monitor, r: &[u8]) -> Outcome
     requires { ⌜ (length (now r) ≡ 16) × (isCompletion (now r) ≡ false) × (isElapsed (now r) ≡ false) ⌝ }
     ensures next { λ o. ⌜ o .next ≡ afterRecord m (now (r .entry)) ⌝ }
-    ensures answer { λ o. ⌜ saysAnswer (o .answer) ≡ recordReply (now (r .entry)) ⌝ }
+    ensures answer { λ o. ⌜ saysAnswer (o .answer) ≡ recordAnswer (now (r .entry)) ⌝ }
 {
     let kind = r[0];
     match kind {

@@ -14,10 +14,10 @@ const WIDTH: usize = 38;
 // Bytes 480 to 511 are not printed.
 const LINES: usize = 30;
 
-// The text is the first `length` bytes; the others are zero.
+// The text is the first `len` bytes; the others are zero.
 pub struct Text {
     pub bytes: [u8; 1140],
-    pub length: usize,
+    pub len: usize,
 }
 
 // A hex digit, a capital from ten on, as its ASCII byte.
@@ -86,9 +86,9 @@ fn put_lines(out: &mut [u8], page: &[u8]) -> usize
 // The text of the page.
 pub fn page_text(page: &[u8; 512]) -> Text
     ensures { λ r. ⌜ r ≡ asText (textOf (now (page .entry))) ⌝ }
-    ensures { λ r. ⌜ r .length ≤ length (r .bytes) ⌝ }
+    ensures { λ r. ⌜ r .len ≤ length (r .bytes) ⌝ }
 {
     let mut bytes = [0; 1140];
-    let length = put_lines(&mut bytes, page);
-    Text { bytes, length }
+    let len = put_lines(&mut bytes, page);
+    Text { bytes, len }
 }

@@ -13,10 +13,10 @@ use Rattle.logpage.specs.Fields.{emptyWindow, noDebugLog}
 use Rattle.monitor.specs.declared.record.Monitor.{Monitor}
 use Rattle.monitor.specs.Commands.{kindOf, highestBelow, bucketOf, counterOf, millisecondsOf}
 use Rattle.monitor.specs.Counting.{loads, countedIn, triggers}
-use Rattle.monitor.specs.Edges.{enabledWith, read, usual, elapsedReplies, bucket, measures, readReply, Holds}
+use Rattle.monitor.specs.Edges.{enabledWith, read, usual, elapsedAnswers, bucket, measures, readAnswer, Holds}
 use Rattle.monitor.specs.Edges.{EdgesHold}
-use Rattle.monitor.specs.Record.{noLoads, newMonitor, afterSettings, afterCompletion, completionReply}
-use Rattle.monitor.specs.Record.{afterElapsed, elapsedReply}
+use Rattle.monitor.specs.Record.{noLoads, newMonitor, afterSettings, afterCompletion, completionAnswer}
+use Rattle.monitor.specs.Record.{afterElapsed, elapsedAnswer}
 use Rattle.monitor.specs.Refusals.{settingsRefusal, fieldRefusal, elapsedRefusal}
 use Rattle.monitor.specs.Settings.{decoded, encoded}
 use Rattle.monitor.specs.Timer.{ticked}
@@ -35,7 +35,7 @@ enabled-record thresholds =
             enabled = true;
           };
       timer = 0;
-      host = false;
+      «host_set» = false;
       partial = 0;
       clock = 0;
       loaded = noLoads;
@@ -59,9 +59,9 @@ by-usual f r row = ap f usual-record ∙ row
 
 counted-row :
     (us : ℕ) (b : Option ℕ) →
-    completionReply (enabled-record usual) (read us) ≡ readReply b →
+    completionAnswer (enabled-record usual) (read us) ≡ readAnswer b →
     Holds (bucket usual us b)
-counted-row us b row = by-usual (λ m. completionReply m (read us)) (readReply b) row
+counted-row us b row = by-usual (λ m. completionAnswer m (read us)) (readAnswer b) row
 
 measured-row :
     (us b ms : ℕ) →
@@ -71,11 +71,11 @@ measured-row us b ms row =
     by-usual (λ m. getD (afterCompletion m (read us) .«active_window» .latencies) (3 * b) 0) ms row
 
 equal-row : Holds (bucket (1 ∷ 1 ∷ 3 ∷ 9 ∷ []) 10000 (some 1))
-unfolding completionReply counterOf bucketOf highestBelow kindOf millisecondsOf loads triggers emptyWindow noDebugLog
-equal-row = ap (λ m. completionReply m (read 10000)) equal-record
+unfolding completionAnswer counterOf bucketOf highestBelow kindOf millisecondsOf loads triggers emptyWindow noDebugLog
+equal-row = ap (λ m. completionAnswer m (read 10000)) equal-record
 
 pub edges-hold : EdgesHold
-unfolding completionReply afterCompletion counterOf bucketOf highestBelow kindOf millisecondsOf loads triggers countedIn elapsedReplies elapsedReply afterElapsed elapsedRefusal ticked emptyWindow noDebugLog
+unfolding completionAnswer afterCompletion counterOf bucketOf highestBelow kindOf millisecondsOf loads triggers countedIn elapsedAnswers elapsedAnswer afterElapsed elapsedRefusal ticked emptyWindow noDebugLog
 edges-hold = (
   counted-row 4999 none refl,
   (
@@ -95,7 +95,7 @@ edges-hold = (
                 (
                   equal-row,
                   (
-                    by-usual (λ m. elapsedReplies m (299999 ∷ 1 ∷ [])) _ refl,
+                    by-usual (λ m. elapsedAnswers m (299999 ∷ 1 ∷ [])) _ refl,
                     (
                       λ p. stamp-at p 9 (omega arith),
                       (

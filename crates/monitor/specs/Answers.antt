@@ -9,33 +9,33 @@ use Rattle.monitor.specs.declared.answers.CompletionAnswer.the-variants 
 use Rattle.monitor.specs.declared.answers.ElapsedAnswer.{ElapsedAnswer}
 use Rattle.monitor.specs.declared.answers.ElapsedAnswer.the-variants as elapsed
 
-pub data Reply : Type 0 where
+pub data CallAnswer : Type 0 where
   -- The answer is the number
-  refused : ℕ → Reply
+  refused : ℕ → CallAnswer
   -- an accepted call with no answer named says 'done'
-  done : Reply
+  done : CallAnswer
   -- 'not counted', or the pair with two yes-or-no facts: stamp loaded, debug record taken
-  notCounted : Reply
-  counted : ℕ → Bool → Bool → Reply
+  notCounted : CallAnswer
+  counted : ℕ → Bool → Bool → CallAnswer
   -- whether a window ended
-  ended : Bool → Reply
+  ended : Bool → CallAnswer
 
 -- what a call answers that a row may turn away
-abbrev pub unlessRefused : Option ℕ → Reply → Reply
-unlessRefused (some n) reply = refused n
-unlessRefused none reply = reply
+abbrev pub unlessRefused : Option ℕ → CallAnswer → CallAnswer
+unlessRefused (some n) answer = refused n
+unlessRefused none answer = answer
 
 -- what each case of the code's answers says
-abbrev pub saysAnswer : Answer → Reply
+abbrev pub saysAnswer : Answer → CallAnswer
 saysAnswer (Refused n) = refused n
 saysAnswer Done = done
 
-abbrev pub saysCompletion : CompletionAnswer → Reply
+abbrev pub saysCompletion : CompletionAnswer → CallAnswer
 saysCompletion completion.NotCounted = notCounted
 saysCompletion (completion.Counted n d) = counted n false d
 saysCompletion (completion.Loaded n d) = counted n true d
 
-abbrev pub saysElapsed : ElapsedAnswer → Reply
+abbrev pub saysElapsed : ElapsedAnswer → CallAnswer
 saysElapsed (elapsed.Refused n) = refused n
 saysElapsed elapsed.Active = ended false
 saysElapsed elapsed.Ended = ended true

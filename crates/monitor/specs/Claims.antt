@@ -7,13 +7,13 @@ use Prim.Native.Nat.{ℕ, _*_, _%_, _<_}
 use lib.Dec.{ltb}
 use lib.ListN.{length, set, replicate}
 use Rattle.logpage.specs.Page.{pageBytes}
-use Rattle.monitor.specs.Facts.{inForce, clockAt, hostAt, timerThreshold, enabledTime, windowAt, timerAt}
+use Rattle.monitor.specs.Facts.{inForce, clockAt, hostSetAt, timerThreshold, enabledTime, windowAt, timerAt}
 use Rattle.monitor.specs.Facts.{Counted, active, static, countOf, lastLoad, stampOf, latencyOf, unitsOf, each}
 use Rattle.monitor.specs.Facts.{windowFrom}
 use Rattle.monitor.specs.Facts.{debugAt, factsOf}
 use Rattle.monitor.specs.History.{elapsed, History, Past, OfBytes, settingsIn, found, latest, pastOf, play}
 use Rattle.monitor.specs.Answers.{ended, unlessRefused}
-use Rattle.monitor.specs.Record.{untouchedIf, elapsedReply}
+use Rattle.monitor.specs.Record.{untouchedIf, elapsedAnswer}
 use Rattle.monitor.specs.declared.record.Monitor.{Monitor}
 use Rattle.monitor.specs.Refusals.{elapsedRefusal, pageRefusal, settingsBackRefusal}
 use Rattle.monitor.specs.Report.{pageOf, settingsOf}
@@ -29,7 +29,7 @@ recordOf past =
     record {
       settings = inForce past;
       timer = timerAt past;
-      host = hostAt past;
+      «host_set» = hostSetAt past;
       partial = enabledTime past % 300000;
       clock = clockAt past;
       loaded = each (λ n. loadedOf (lastLoad (active past n)));
@@ -47,7 +47,7 @@ PlayedAsFacts = (h : History) → play h ≡ recordOf (pastOf h)
 abbrev pub WindowEnds : Type 0
 WindowEnds =
     (h : History) (ms : ℕ) →
-    elapsedReply (play h) ms ≡
+    elapsedAnswer (play h) ms ≡
     unlessRefused (elapsedRefusal ms) (ended (ltb (windowAt (pastOf h)) (windowAt (pastOf (elapsed ms ∷ h)))))
 
 -- Demands 2 and 3, each page: after any history it is the one that the page table makes of the facts.

@@ -6,7 +6,7 @@ use mathlib.Core.Option.{Option, none, some}
 use lib.Dec.{eqb, leb, ltb}
 use lib.ListN.{getD}
 use Rattle.logpage.specs.declared.Settings.{Settings}
-use Rattle.monitor.specs.declared.commands.Completion.{Completion}
+use Rattle.monitor.specs.declared.commands.Command.{Command}
 use Rattle.monitor.specs.declared.commands.Kind.{Kind}
 use Rattle.monitor.specs.declared.commands.Kind.the-variants.{Read, Write, Deallocate, Other}
 use Rattle.monitor.specs.declared.commands.Bucket.{Bucket}
@@ -29,7 +29,7 @@ abbrev pub saysCounter : ℕ → Option ℕ
 saysCounter n = cond (ltb n 12) (some n) none
 
 -- Opcode 02h is Read, 01h Write, 09h Deallocate; the others are not counted.
-unfoldable pub kindOf : Completion → Option ℕ
+unfoldable pub kindOf : Command → Option ℕ
 kindOf c =
     cond (eqb (c .opcode) 2) (some 0)
     (cond (eqb (c .opcode) 1) (some 1)
@@ -45,7 +45,7 @@ highestBelow thresholds us zero = none
 highestBelow thresholds us (suc b) = cond (reaches us (getD thresholds b 0)) (some b) (highestBelow thresholds us b)
 
 -- The bucket is the highest one whose threshold it reaches; A to D belong to buckets 0 to 3.
-unfoldable pub bucketOf : List ℕ → Completion → Option ℕ
+unfoldable pub bucketOf : List ℕ → Command → Option ℕ
 bucketOf thresholds c = highestBelow thresholds (c .latency) 4
 
 -- A pair is a bucket and a kind; its pair number is 3 × bucket + kind, 0 to 11.
@@ -55,16 +55,16 @@ counterAt (some b) none = none
 counterAt none k = none
 
 -- Below A it is not counted.
-abbrev pub reachesA : List ℕ → Completion → Bool
+abbrev pub reachesA : List ℕ → Command → Bool
 reachesA thresholds c = reaches (c .latency) (getD thresholds 0 0)
 
 -- With the monitor disabled it is not counted.
-unfoldable pub counterOf : Settings → Completion → Option ℕ
+unfoldable pub counterOf : Settings → Command → Option ℕ
 counterOf s c =
     cond (s .enabled)
     (cond (reachesA (s .thresholds) c) (counterAt (bucketOf (s .thresholds) c) (kindOf c)) none)
     none
 
 -- The latency in whole ms is rounded down and held at 65,535.
-unfoldable pub millisecondsOf : Completion → ℕ
+unfoldable pub millisecondsOf : Command → ℕ
 millisecondsOf c = min (c .latency / 1000) 65535

@@ -26,13 +26,13 @@ loads stamp latency since ms largest minimum = eqb stamp unset || (largest && ex
 
 -- the window after a completion for counter n. Loading sets the stamp to the clock, the shown latency to this latency in
 -- ms, and the mark to 1 if the clock is host-set, else 0.
-unfoldable pub countedIn : Bool → (n clock ms : ℕ) (host : Bool) → Window → Window
-countedIn load n clock ms host w =
+unfoldable pub countedIn : Bool → (n clock ms : ℕ) (hostSet : Bool) → Window → Window
+countedIn load n clock ms hostSet w =
     record {
       counters = set (w .counters) n (onceMore (getD (w .counters) n 0));
       stamps = cond load (set (w .stamps) n clock) (w .stamps);
       latencies = cond load (set (w .latencies) n ms) (w .latencies);
-      units = cond load (set (w .units) n host) (w .units);
+      units = cond load (set (w .units) n hostSet) (w .units);
     }
 
 -- If the pair's trigger bit is 1 and no debug record is held, one is taken; held: its stamp is set. A count already at
@@ -41,5 +41,5 @@ unfoldable pub triggers : (trigger : Bool) (stamp : ℕ) → Bool
 triggers trigger stamp = trigger && eqb stamp unset
 
 -- what a debug record holds: ms, clock, clock mark and the pair as one set bit
-abbrev pub debugLog : (n clock ms : ℕ) (host : Bool) → DebugLog
-debugLog n clock ms host = record { stamp = clock; latency = ms; source = 2 ^ n; units = host }
+abbrev pub debugLog : (n clock ms : ℕ) (hostSet : Bool) → DebugLog
+debugLog n clock ms hostSet = record { stamp = clock; latency = ms; source = 2 ^ n; units = hostSet }

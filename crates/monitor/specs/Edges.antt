@@ -8,12 +8,12 @@ use lib.ListN.{getD, take, drop}
 use Rattle.endian.specs.Stores.{lowFirst}
 use Rattle.logpage.specs.Page.{pageBytes}
 use Rattle.logpage.specs.declared.page.LogPage.{LogPage}
-use Rattle.monitor.specs.declared.commands.Completion.{Completion}
+use Rattle.monitor.specs.declared.commands.Command.{Command}
 use Rattle.monitor.specs.declared.record.Monitor.{Monitor}
-use Rattle.monitor.specs.Answers.{Reply, notCounted, counted, ended}
+use Rattle.monitor.specs.Answers.{CallAnswer, notCounted, counted, ended}
 use Rattle.monitor.specs.Settings.{encoded}
-use Rattle.monitor.specs.Record.{newMonitor, afterSettings, afterCompletion, completionReply, afterElapsed}
-use Rattle.monitor.specs.Record.{elapsedReply}
+use Rattle.monitor.specs.Record.{newMonitor, afterSettings, afterCompletion, completionAnswer, afterElapsed}
+use Rattle.monitor.specs.Record.{elapsedAnswer}
 
 -- a new monitor after settings with enable 1: this timer threshold and these thresholds A to D, all else zero
 unfoldable pub enabledWith : ℕ → List ℕ → Monitor
@@ -30,7 +30,7 @@ enabledWith threshold thresholds =
     }))
 
 -- a Read of so many µs
-abbrev pub read : ℕ → Completion
+abbrev pub read : ℕ → Command
 read us = record { opcode = 2; latency = us }
 
 -- With A-D 0, 1, 3, 9
@@ -38,9 +38,9 @@ abbrev pub usual : List ℕ
 usual = 0 ∷ 1 ∷ 3 ∷ 9 ∷ []
 
 -- what is answered to elapsed times, one after the other
-unfoldable pub elapsedReplies : Monitor → List ℕ → List Reply
-elapsedReplies m [] = []
-elapsedReplies m (ms ∷ later) = elapsedReply m ms ∷ elapsedReplies (afterElapsed m ms) later
+unfoldable pub elapsedAnswers : Monitor → List ℕ → List CallAnswer
+elapsedAnswers m [] = []
+elapsedAnswers m (ms ∷ later) = elapsedAnswer m ms ∷ elapsedAnswers (afterElapsed m ms) later
 
 -- a row of the table: a Read and its bucket, by these thresholds; a Read and the measured latency of its bucket then; elapsed
 -- times by this timer threshold, and whether each ends a window; a bucket, a kind, and the page byte of their stamp
@@ -51,20 +51,20 @@ pub data Edge : Type 0 where
   stampAt : (bucket kind place : ℕ) → Edge
 
 -- the Read counter of a bucket is 3 × bucket; its first completion loads the stamp
-abbrev pub readReply : Option ℕ → Reply
-readReply none = notCounted
-readReply (some b) = counted (3 * b) true false
+abbrev pub readAnswer : Option ℕ → CallAnswer
+readAnswer none = notCounted
+readAnswer (some b) = counted (3 * b) true false
 
-abbrev pub endedReplies : List Bool → List Reply
-endedReplies [] = []
-endedReplies (b ∷ later) = ended b ∷ endedReplies later
+abbrev pub endedAnswers : List Bool → List CallAnswer
+endedAnswers [] = []
+endedAnswers (b ∷ later) = ended b ∷ endedAnswers later
 
 -- what a row says of the rules
 abbrev pub Holds : Edge → Type 0
-Holds (bucket thresholds us b) = completionReply (enabledWith 1 thresholds) (read us) ≡ readReply b
+Holds (bucket thresholds us b) = completionAnswer (enabledWith 1 thresholds) (read us) ≡ readAnswer b
 Holds (measures us b ms) =
     getD (afterCompletion (enabledWith 1 usual) (read us) .«active_window» .latencies) (3 * b) 0 ≡ ms
-Holds (ends threshold times replies) = elapsedReplies (enabledWith threshold usual) times ≡ endedReplies replies
+Holds (ends threshold times answers) = elapsedAnswers (enabledWith threshold usual) times ≡ endedAnswers answers
 Holds (stampAt b k place) =
     (p : LogPage) → take 8 (drop place (pageBytes p)) ≡ lowFirst 8 (getD (p .«active_window» .stamps) (3 * b + k) 0)
 

@@ -10,7 +10,7 @@ use Rattle.logpage.specs.declared.page.LogPage.{LogPage}
 use Rattle.logpage.specs.declared.DebugLog.{DebugLog}
 use Rattle.logpage.specs.declared.Settings.{Settings}
 use Rattle.logpage.specs.declared.Window.{Window}
-use Rattle.monitor.specs.declared.commands.Completion.{Completion}
+use Rattle.monitor.specs.declared.commands.Command.{Command}
 use Rattle.monitor.specs.Commands.{counterOf, millisecondsOf}
 use Rattle.monitor.specs.Counting.{bit, debugLog}
 use Rattle.monitor.specs.History.{Effect, Past, ClockSetting, settingsIn, completionIn, elapsedIn, clockIn, found}
@@ -44,8 +44,8 @@ clockAt past =
     min (found 0 (λ (set : ClockSetting). set .value) (latest clockIn past) + sum (since clockIn elapsedAt past))
     281474976710655
 
-unfoldable pub hostAt : Past → Bool
-hostAt past = found false (λ (set : ClockSetting). set .host) (latest clockIn past)
+unfoldable pub hostSetAt : Past → Bool
+hostSetAt past = found false (λ (set : ClockSetting). set .hostSet) (latest clockIn past)
 
 -- settings with enable 1
 abbrev pub enablingIn : Effect → Option Settings
@@ -75,7 +75,7 @@ timerAt past = enabledTime past / 300000 - windowAt past * timerThreshold past
 -- window and trigger bit, go by those in force at its own place, whatever is accepted later.
 pub record Counted : Type 0 where
   pub counter : ℕ
-  pub command : Completion
+  pub command : Command
   pub before : Past
 
 abbrev pub countedAt : Effect → Past → Option Counted
@@ -135,7 +135,7 @@ abbrev pub latencyOf : Option Counted → ℕ
 latencyOf load = found 0 (λ x. millisecondsOf (x .command)) load
 
 abbrev pub unitsOf : Option Counted → Bool
-unitsOf load = found false (λ x. hostAt (x .before)) load
+unitsOf load = found false (λ x. hostSetAt (x .before)) load
 
 -- f 0, f 1, .. of the twelve counters
 unfoldable pub from : {A : Type 0} → ℕ → ℕ → (ℕ → A) → List A
@@ -172,7 +172,7 @@ earliest [] = none
 earliest (x ∷ earlier) = orEarliest x (earliest earlier)
 
 abbrev pub logOf : Counted → DebugLog
-logOf x = debugLog (x .counter) (clockAt (x .before)) (millisecondsOf (x .command)) (hostAt (x .before))
+logOf x = debugLog (x .counter) (clockAt (x .before)) (millisecondsOf (x .command)) (hostSetAt (x .before))
 
 unfoldable pub debugAt : Past → DebugLog
 debugAt past = found noDebugLog logOf (earliest (filter triggered (since discardIn countedAt past)))

@@ -3,7 +3,7 @@ use mathlib.Core.Bool.{Bool, true, false, cond}
 use mathlib.Core.List.{List, [], _∷_, map}
 use mathlib.Core.Option.{Option, none, some}
 use Prim.Native.Nat.{ℕ, _<_}
-use Rattle.monitor.specs.declared.commands.Completion.{Completion}
+use Rattle.monitor.specs.declared.commands.Command.{Command}
 use Rattle.monitor.specs.declared.record.Monitor.{Monitor}
 use Rattle.monitor.specs.Record.{newMonitor, afterSettings, afterCompletion, afterElapsed, afterClock}
 use Rattle.monitor.specs.Record.{afterPowerUp}
@@ -13,7 +13,7 @@ use Rattle.monitor.specs.Refusals.{settingsBackRefusal}
 -- Settings stand in a history as their bytes, page and settings back as a buffer length.
 pub data Call : Type 0 where
   settings : List ℕ → Call
-  completion : Completion → Call
+  completion : Command → Call
   elapsed : ℕ → Call
   clock : ℕ → Call
   powerUp : Call
@@ -31,8 +31,8 @@ after (completion c) m = afterCompletion m c
 after (elapsed ms) m = afterElapsed m ms
 after (clock value) m = afterClock m value
 after powerUp m = afterPowerUp m
-after (page length) m = m
-after (settingsBack length) m = m
+after (page n) m = m
+after (settingsBack n) m = m
 
 -- the record that a history leaves of another
 unfoldable pub playFrom : Monitor → History → Monitor
@@ -50,13 +50,13 @@ refusalOf (completion c) = none
 refusalOf (elapsed ms) = elapsedRefusal ms
 refusalOf (clock value) = clockRefusal value
 refusalOf powerUp = none
-refusalOf (page length) = pageRefusal length
-refusalOf (settingsBack length) = settingsBackRefusal length
+refusalOf (page n) = pageRefusal n
+refusalOf (settingsBack n) = settingsBackRefusal n
 
 -- what a call does to the record
 pub data Effect : Type 0 where
   configured : List ℕ → Effect
-  completed : Completion → Effect
+  completed : Command → Effect
   passed : ℕ → Effect
   clockSet : ℕ → Effect
   poweredUp : Effect
@@ -72,8 +72,8 @@ asked (completion c) = completed c
 asked (elapsed ms) = passed ms
 asked (clock value) = clockSet value
 asked powerUp = poweredUp
-asked (page length) = nothing
-asked (settingsBack length) = nothing
+asked (page n) = nothing
+asked (settingsBack n) = nothing
 
 -- Accepted: turned away by no rule. A call that is refused does nothing.
 abbrev pub effectOf : Call → Effect
@@ -89,7 +89,7 @@ pastOf h = map effectOf h
 -- the clock is set to a value, by the host or by power-up
 pub record ClockSetting : Type 0 where
   pub value : ℕ
-  pub host : Bool
+  pub hostSet : Bool
 
 -- what each effect brings
 abbrev pub settingsIn : Effect → Option (List ℕ)
@@ -100,7 +100,7 @@ settingsIn (clockSet value) = none
 settingsIn poweredUp = none
 settingsIn nothing = none
 
-abbrev pub completionIn : Effect → Option Completion
+abbrev pub completionIn : Effect → Option Command
 completionIn (configured s) = none
 completionIn (completed c) = some c
 completionIn (passed ms) = none
@@ -120,8 +120,8 @@ abbrev pub clockIn : Effect → Option ClockSetting
 clockIn (configured s) = none
 clockIn (completed c) = none
 clockIn (passed ms) = none
-clockIn (clockSet value) = some (record { value = value; host = true })
-clockIn poweredUp = some (record { value = 0; host = false })
+clockIn (clockSet value) = some (record { value = value; hostSet = true })
+clockIn poweredUp = some (record { value = 0; hostSet = false })
 clockIn nothing = none
 
 -- something, if a test passes

@@ -6,10 +6,10 @@ use Prim.Native.Nat.{ℕ, _-_}
 use lib.Dec.{eqb}
 use lib.ListN.{getD, set, replicate}
 use Rattle.logpage.specs.Fields.{noSettings, emptyWindow, noDebugLog}
-use Rattle.monitor.specs.declared.commands.Completion.{Completion}
+use Rattle.monitor.specs.declared.commands.Command.{Command}
 use Rattle.monitor.specs.declared.record.Monitor.{Monitor}
 use Rattle.monitor.specs.declared.timer.Tick.{Tick}
-use Rattle.monitor.specs.Answers.{Reply, done, notCounted, counted, ended, unlessRefused}
+use Rattle.monitor.specs.Answers.{CallAnswer, done, notCounted, counted, ended, unlessRefused}
 use Rattle.monitor.specs.Commands.{counterOf, millisecondsOf}
 use Rattle.monitor.specs.Refusals.{settingsRefusal, elapsedRefusal, clockRefusal}
 use Rattle.monitor.specs.Settings.{discard, decoded}
@@ -27,7 +27,7 @@ newMonitor =
     record {
       settings = noSettings;
       clock = 0;
-      host = false;
+      «host_set» = false;
       timer = 0;
       partial = 0;
       «active_window» = emptyWindow;
@@ -50,7 +50,7 @@ replaced m s =
     record {
       settings = decoded s;
       clock = m .clock;
-      host = m .host;
+      «host_set» = m .«host_set»;
       timer = cond on 0 (m .timer);
       partial = cond on 0 (m .partial);
       «active_window» = cond on emptyWindow (m .«active_window»);
@@ -63,8 +63,8 @@ replaced m s =
 unfoldable pub afterSettings : Monitor → List ℕ → Monitor
 afterSettings m s = untouchedIf (settingsRefusal s) m (replaced m s)
 
-unfoldable pub settingsReply : List ℕ → Reply
-settingsReply s = unlessRefused (settingsRefusal s) done
+unfoldable pub settingsAnswer : List ℕ → CallAnswer
+settingsAnswer s = unlessRefused (settingsRefusal s) done
 
 -- whether a completion of so many ms loads counter n's stamp: the sum of elapsed time since the last load is the time
 -- in the window now, less that at the load
@@ -86,13 +86,13 @@ afterCounted m n ms =
     record {
       settings = m .settings;
       clock = m .clock;
-      host = m .host;
+      «host_set» = m .«host_set»;
       timer = m .timer;
       partial = m .partial;
-      «active_window» = countedIn (loadsAt m n ms) n (m .clock) ms (m .host) (m .«active_window»);
+      «active_window» = countedIn (loadsAt m n ms) n (m .clock) ms (m .«host_set») (m .«active_window»);
       loaded = cond (loadsAt m n ms) (set (m .loaded) n (inWindow (m .timer) (m .partial))) (m .loaded);
       «static_window» = m .«static_window»;
-      debug = cond (triggersAt m n) (debugLog n (m .clock) ms (m .host)) (m .debug);
+      debug = cond (triggersAt m n) (debugLog n (m .clock) ms (m .«host_set»)) (m .debug);
     }
 
 -- the others are not counted
@@ -101,16 +101,16 @@ onCounter (some n) m ms = afterCounted m n ms
 onCounter none m ms = m
 
 -- what a completion does; it is never refused
-unfoldable pub afterCompletion : Monitor → Completion → Monitor
+unfoldable pub afterCompletion : Monitor → Command → Monitor
 afterCompletion m c = onCounter (counterOf (m .settings) c) m (millisecondsOf c)
 
 -- the pair with two yes-or-no facts, or 'not counted'
-abbrev counterReply : Option ℕ → Monitor → ℕ → Reply
-counterReply (some n) m ms = counted n (loadsAt m n ms) (triggersAt m n)
-counterReply none m ms = notCounted
+abbrev counterAnswer : Option ℕ → Monitor → ℕ → CallAnswer
+counterAnswer (some n) m ms = counted n (loadsAt m n ms) (triggersAt m n)
+counterAnswer none m ms = notCounted
 
-unfoldable pub completionReply : Monitor → Completion → Reply
-completionReply m c = counterReply (counterOf (m .settings) c) m (millisecondsOf c)
+unfoldable pub completionAnswer : Monitor → Command → CallAnswer
+completionAnswer m c = counterAnswer (counterOf (m .settings) c) m (millisecondsOf c)
 
 -- steps, partial step and the window's end after elapsed time
 abbrev tickedBy : Monitor → ℕ → Tick
@@ -124,7 +124,7 @@ afterTime m ms =
     record {
       settings = m .settings;
       clock = grown (m .clock) ms;
-      host = m .host;
+      «host_set» = m .«host_set»;
       timer = t .timer;
       partial = t .partial;
       «active_window» = cond (t .expired) emptyWindow (m .«active_window»);
@@ -137,16 +137,16 @@ afterTime m ms =
 unfoldable pub afterElapsed : Monitor → ℕ → Monitor
 afterElapsed m ms = untouchedIf (elapsedRefusal ms) m (afterTime m ms)
 
-unfoldable pub elapsedReply : Monitor → ℕ → Reply
-elapsedReply m ms = unlessRefused (elapsedRefusal ms) (ended (tickedBy m ms .expired))
+unfoldable pub elapsedAnswer : Monitor → ℕ → CallAnswer
+elapsedAnswer m ms = unlessRefused (elapsedRefusal ms) (ended (tickedBy m ms .expired))
 
 -- the record with another clock; the time since a stamp's load stays
 abbrev withClock : Monitor → ℕ → Bool → Monitor
-withClock m value host =
+withClock m value hostSet =
     record {
       settings = m .settings;
       clock = value;
-      host = host;
+      «host_set» = hostSet;
       timer = m .timer;
       partial = m .partial;
       «active_window» = m .«active_window»;
@@ -159,8 +159,8 @@ withClock m value host =
 unfoldable pub afterClock : Monitor → ℕ → Monitor
 afterClock m value = untouchedIf (clockRefusal value) m (withClock m value true)
 
-unfoldable pub clockReply : ℕ → Reply
-clockReply value = unlessRefused (clockRefusal value) done
+unfoldable pub clockAnswer : ℕ → CallAnswer
+clockAnswer value = unlessRefused (clockRefusal value) done
 
 -- Power-up sets the clock to 0 and not host-set, and keeps all else.
 unfoldable pub afterPowerUp : Monitor → Monitor

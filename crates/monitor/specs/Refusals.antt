@@ -47,8 +47,8 @@ clockRefusal value = row 8 (ltb 281474976710655 value) none
 
 -- page: lent buffer is not 512 bytes
 unfoldable pub pageRefusal : ℕ → Option ℕ
-pageRefusal length = row 9 (not (eqb length 512)) none
+pageRefusal n = row 9 (not (eqb n 512)) none
 
 -- settings back: lent buffer is not 4,096 bytes
 unfoldable pub settingsBackRefusal : ℕ → Option ℕ
-settingsBackRefusal length = row 10 (not (eqb length 4096)) none
+settingsBackRefusal n = row 10 (not (eqb n 4096)) none

@@ -5,7 +5,7 @@ use lib.ListN.{length}
 use Rattle.logpage.specs.Page.{pageBytes}
 use Rattle.logpage.specs.declared.page.LogPage.{LogPage}
 use Rattle.monitor.specs.declared.record.Monitor.{Monitor}
-use Rattle.monitor.specs.Answers.{Reply, done, unlessRefused}
+use Rattle.monitor.specs.Answers.{CallAnswer, done, unlessRefused}
 use Rattle.monitor.specs.Record.{untouchedIf}
 use Rattle.monitor.specs.Refusals.{pageRefusal, settingsBackRefusal}
 use Rattle.monitor.specs.Settings.{encoded}
@@ -28,8 +28,8 @@ pageOf m = pageBytes (fieldsOf m)
 unfoldable pub afterPage : Monitor → List ℕ → List ℕ
 afterPage m buffer = untouchedIf (pageRefusal (length buffer)) buffer (pageOf m)
 
-unfoldable pub pageReply : ℕ → Reply
-pageReply length = unlessRefused (pageRefusal length) done
+unfoldable pub pageAnswer : ℕ → CallAnswer
+pageAnswer n = unlessRefused (pageRefusal n) done
 
 -- the settings given back
 unfoldable pub settingsOf : Monitor → List ℕ
@@ -38,5 +38,5 @@ settingsOf m = encoded (m .settings)
 unfoldable pub afterSettingsBack : Monitor → List ℕ → List ℕ
 afterSettingsBack m buffer = untouchedIf (settingsBackRefusal (length buffer)) buffer (settingsOf m)
 
-unfoldable pub settingsBackReply : ℕ → Reply
-settingsBackReply length = unlessRefused (settingsBackRefusal length) done
+unfoldable pub settingsBackAnswer : ℕ → CallAnswer
+settingsBackAnswer n = unlessRefused (settingsBackRefusal n) done

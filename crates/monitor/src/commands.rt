@@ -8,7 +8,7 @@ use logpage::Settings;
 
 // What a completion brings.
 #[repr(C)]
-pub struct Completion {
+pub struct Command {
     // In microseconds.
     pub latency: u32,
     pub opcode: u8,
@@ -52,7 +52,7 @@ fn counter_at(bucket: u8, kind: Kind) -> u16
     }
 }
 
-impl Completion {
+impl Command {
     // The kind of the command.
     pub(crate) fn kind(self) -> Kind
         ensures { λ r. ⌜ saysKind r ≡ kindOf self ⌝ }

@@ -55,19 +55,19 @@ pub(crate) fn counted_at(mut counters: [u32; 12], n: u16) -> [u32; 12]
 }
 
 // The time from a load until now; 0 where the load comes later, which no history makes.
-fn since(loaded: u64, now: u64) -> u64
-    ensures { λ r. ⌜ r ≡ now - loaded ⌝ }
+fn since(loaded: u64, time: u64) -> u64
+    ensures { λ r. ⌜ r ≡ time - loaded ⌝ }
 {
-    if loaded <= now { now - loaded } else { 0 }
+    if loaded <= time { time - loaded } else { 0 }
 }
 
 // Whether a latency of `ms` loads a stamp that is set, in mode largest: it is larger than the one measured, and at least
-// the minimum window has passed since the last load. `loaded` and `now` are times in the active window.
-pub(crate) fn exceeds(latency: u16, loaded: u64, ms: u16, minimum: u8, now: u64) -> bool
-    ensures { λ r. ⌜ r ≡ exceeds latency (now - loaded) ms minimum ⌝ }
+// the minimum window has passed since the last load. `loaded` and `time` are times in the active window.
+pub(crate) fn exceeds(latency: u16, loaded: u64, ms: u16, minimum: u8, time: u64) -> bool
+    ensures { λ r. ⌜ r ≡ exceeds latency (time - loaded) ms minimum ⌝ }
 {
     if latency < ms {
-        100 * (minimum as u64) <= since(loaded, now)
+        100 * (minimum as u64) <= since(loaded, time)
     } else {
         false
     }
@@ -93,17 +93,17 @@ pub(crate) fn logged(
     n: usize,
     clock: u64,
     ms: u16,
-    host: bool,
+    host_set: bool,
 ) -> DebugLog
     requires { ⌜ n < 12 ⌝ }
-    ensures { λ r. ⌜ r ≡ cond takes (debugLog n clock ms host) held ⌝ }
+    ensures { λ r. ⌜ r ≡ cond takes (debugLog n clock ms host_set) held ⌝ }
 {
     if takes {
         DebugLog {
             stamp: clock,
             latency: ms,
             source: one_bit(n),
-            units: host,
+            units: host_set,
         }
     } else {
         DebugLog {

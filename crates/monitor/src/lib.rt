@@ -11,7 +11,7 @@ mod timer;
 pub use answers::Answer;
 pub use answers::CompletionAnswer;
 pub use answers::ElapsedAnswer;
-pub use commands::Completion;
+pub use commands::Command;
 pub use commands::NOT_COUNTED;
 pub use record::CompletionOutcome;
 pub use record::ElapsedOutcome;

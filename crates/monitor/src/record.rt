@@ -2,12 +2,12 @@
 ghost use mathlib.Core.Path.{_≡_};
 ghost use Prim.Native.Nat.{_<_};
 ghost use Rattle.monitor.specs.Answers.{done, saysAnswer, saysCompletion, saysElapsed};
-ghost use Rattle.monitor.specs.Record.{newMonitor, afterSettings, settingsReply, afterCompletion, completionReply};
-ghost use Rattle.monitor.specs.Record.{afterElapsed, elapsedReply, afterClock, clockReply, afterPowerUp, loadsAt};
+ghost use Rattle.monitor.specs.Record.{newMonitor, afterSettings, settingsAnswer, afterCompletion, completionAnswer};
+ghost use Rattle.monitor.specs.Record.{afterElapsed, elapsedAnswer, afterClock, clockAnswer, afterPowerUp, loadsAt};
 use crate::answers::Answer;
 use crate::answers::CompletionAnswer;
 use crate::answers::ElapsedAnswer;
-use crate::commands::Completion;
+use crate::commands::Command;
 use crate::commands::NOT_COUNTED;
 use crate::counting;
 use crate::refusals;
@@ -25,7 +25,7 @@ pub struct Monitor {
     // Active Bucket Timer: increments of five minutes in the active window (document 01: steps).
     pub timer: u16,
     // Whether the host set the clock (document 01: host-set).
-    pub host: bool,
+    pub host_set: bool,
     // Time since the timer's last increment, in ms (document 01: partial step).
     pub partial: u32,
     // In ms.
@@ -66,7 +66,7 @@ impl Monitor {
         Monitor {
             settings: s,
             timer: 0,
-            host: false,
+            host_set: false,
             partial: 0,
             clock: 0,
             loaded: [0; 12],
@@ -79,7 +79,7 @@ impl Monitor {
     // Settings, as 4,096 bytes.
     pub fn configure(mut self, s: &[u8]) -> Outcome
         ensures next { λ r. ⌜ r .next ≡ afterSettings self (now (s .entry)) ⌝ }
-        ensures answer { λ r. ⌜ saysAnswer (r .answer) ≡ settingsReply (now (s .entry)) ⌝ }
+        ensures answer { λ r. ⌜ saysAnswer (r .answer) ≡ settingsAnswer (now (s .entry)) ⌝ }
     {
         match settings::check(s) {
             Answer::Refused(n) => {
@@ -119,13 +119,13 @@ impl Monitor {
         } else if counting::bit(self.settings.mode, n) {
             let latencies = self.active_window.latencies;
             let loaded = self.loaded;
-            let now = timer::in_window(self.timer, self.partial);
+            let time = timer::in_window(self.timer, self.partial);
             counting::exceeds(
                 latencies[n],
                 loaded[n],
                 ms,
                 self.settings.minimum_window,
-                now,
+                time,
             )
         } else {
             false
@@ -133,9 +133,9 @@ impl Monitor {
     }
 
     // A completed command.
-    pub fn completion(mut self, c: Completion) -> CompletionOutcome
+    pub fn completion(mut self, c: Command) -> CompletionOutcome
         ensures next { λ r. ⌜ r .next ≡ afterCompletion self c ⌝ }
-        ensures answer { λ r. ⌜ saysCompletion (r .answer) ≡ completionReply self c ⌝ }
+        ensures answer { λ r. ⌜ saysCompletion (r .answer) ≡ completionAnswer self c ⌝ }
     {
         let counter = c.counter(self.settings);
         if counter < NOT_COUNTED {
@@ -143,7 +143,7 @@ impl Monitor {
             let ms = c.milliseconds();
             // The debug log takes nothing from the counter or the stamp, so it may come first.
             let debug = counting::triggers(self.settings.trigger, n, self.debug.stamp);
-            self.debug = counting::logged(debug, self.debug, n, self.clock, ms, self.host);
+            self.debug = counting::logged(debug, self.debug, n, self.clock, ms, self.host_set);
             let active = self.active_window.counters;
             let counters = counting::counted_at(active, counter);
             if self.loads(n, ms) {
@@ -153,7 +153,7 @@ impl Monitor {
                 let mut loaded = self.loaded;
                 stamps[n] = self.clock;
                 latencies[n] = ms;
-                units[n] = self.host;
+                units[n] = self.host_set;
                 loaded[n] = timer::in_window(self.timer, self.partial);
                 self.active_window = Window::of(counters, stamps, latencies, units);
                 self.loaded = loaded;
@@ -176,7 +176,7 @@ impl Monitor {
     // Elapsed time, in ms.
     pub fn elapsed(mut self, ms: u32) -> ElapsedOutcome
         ensures next { λ r. ⌜ r .next ≡ afterElapsed self ms ⌝ }
-        ensures answer { λ r. ⌜ saysElapsed (r .answer) ≡ elapsedReply self ms ⌝ }
+        ensures answer { λ r. ⌜ saysElapsed (r .answer) ≡ elapsedAnswer self ms ⌝ }
     {
         if ms <= timer::ELAPSED_TOP {
             let t = timer::ticked(
@@ -210,11 +210,11 @@ impl Monitor {
     // The host sets the clock, in ms.
     pub fn set_clock(mut self, value: u64) -> Outcome
         ensures next { λ r. ⌜ r .next ≡ afterClock self value ⌝ }
-        ensures answer { λ r. ⌜ saysAnswer (r .answer) ≡ clockReply value ⌝ }
+        ensures answer { λ r. ⌜ saysAnswer (r .answer) ≡ clockAnswer value ⌝ }
     {
         if value <= timer::CLOCK_TOP {
             self.clock = value;
-            self.host = true;
+            self.host_set = true;
             let answer = Answer::Done;
             Outcome { next: self, answer }
         } else {
@@ -229,7 +229,7 @@ impl Monitor {
         ensures answer { λ r. ⌜ saysAnswer (r .answer) ≡ done ⌝ }
     {
         self.clock = 0;
-        self.host = false;
+        self.host_set = false;
         let answer = Answer::Done;
         Outcome { next: self, answer }
     }

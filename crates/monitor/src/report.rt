@@ -3,7 +3,7 @@ ghost use mathlib.Core.Path.{_≡_};
 ghost use lib.ListN.{length};
 ghost use Rattle.monitor.specs.Answers.{saysAnswer};
 ghost use Rattle.monitor.specs.History.{History, OfBytes, play};
-ghost use Rattle.monitor.specs.Report.{afterPage, pageReply, afterSettingsBack, settingsBackReply};
+ghost use Rattle.monitor.specs.Report.{afterPage, pageAnswer, afterSettingsBack, settingsBackAnswer};
 ghost use Rattle.monitor.specs.Claims.{pageByFacts, settingsByFacts};
 use crate::answers::Answer;
 use crate::record::Monitor;
@@ -15,7 +15,7 @@ impl Monitor {
     // Log page C3h, into a buffer of 512 bytes.
     pub fn page(self, page: &mut [u8]) -> Answer
         ensures bytes { λ _. ⌜ now (page .exit) ≡ afterPage self (now (page .entry)) ⌝ }
-        ensures answer { λ r. ⌜ saysAnswer r ≡ pageReply (length (now (page .entry))) ⌝ }
+        ensures answer { λ r. ⌜ saysAnswer r ≡ pageAnswer (length (now (page .entry))) ⌝ }
         ensures facts { λ _. ⌜ ((h : History) → self ≡ play h → now (page .exit) ≡ pageByFacts h (now (page .entry))) ⌝ }
     {
         let settings = self.settings;
@@ -40,7 +40,7 @@ impl Monitor {
     // The settings in force, into a buffer of 4,096 bytes.
     pub fn settings_back(self, s: &mut [u8]) -> Answer
         ensures bytes { λ _. ⌜ now (s .exit) ≡ afterSettingsBack self (now (s .entry)) ⌝ }
-        ensures answer { λ r. ⌜ saysAnswer r ≡ settingsBackReply (length (now (s .entry))) ⌝ }
+        ensures answer { λ r. ⌜ saysAnswer r ≡ settingsBackAnswer (length (now (s .entry))) ⌝ }
         ensures facts { λ _. ⌜ ((h : History) → OfBytes h → self ≡ play h → now (s .exit) ≡ settingsByFacts h (now (s .entry))) ⌝ }
     {
         if s.len() == settings::LENGTH {

@@ -2,7 +2,7 @@
 // page.
 ghost use Prim.Native.Nat.{_+_, _*_, _≤_, _<_, _^_};
 ghost use lib.ListN.{length};
-use events::Place;
+use events::Halt;
 use monitor::Answer;
 use monitor::Monitor;
 
@@ -35,14 +35,14 @@ fn records(m: Monitor, s: &[u8], base: u64) -> Monitor
         let from = 16 * i;
         let stop = events::run(monitor, &s[from..]);
         monitor = stop.monitor;
-        let at = stop.at;
-        match at {
-            Place::Refused { index, number } => {
+        let halt = stop.halt;
+        match halt {
+            Halt::Refused { index, number } => {
                 i = i + index;
                 refused(base + i as u64, number);
                 i = i + 1;
             }
-            Place::End => {
+            Halt::End => {
                 break;
             }
         }
@@ -67,7 +67,7 @@ fn print_page(m: Monitor) {
     m.page(&mut page);
     let text = events::page_text(&page);
     let bytes = text.bytes;
-    let n = text.length;
+    let n = text.len;
     io::write_all(1, &bytes[..n]);
 }
 

@@ -2,7 +2,7 @@
 ghost use mathlib.Core.Path.{_≡_};
 ghost use Prim.Native.Nat.{_≤_};
 ghost use lib.ListN.{length};
-use events::Place;
+use events::Halt;
 use monitor::Answer;
 use monitor::Monitor;
 
@@ -64,14 +64,14 @@ fn records(mut p: Played, file: &[u8], to: usize, refusals: &[u8]) -> Played {
         let stop = events::run(m, &file[RECORD * i..RECORD * to]);
         let monitor = stop.monitor;
         p.monitor = monitor;
-        let at = stop.at;
-        match at {
-            Place::Refused { index, number } => {
+        let halt = stop.halt;
+        match halt {
+            Halt::Refused { index, number } => {
                 let record = stopped(i, index, to);
                 i = record + 1;
                 p = refused(p, refusals, record, number);
             }
-            Place::End => {
+            Halt::End => {
                 i = to;
             }
         }

@@ -94,7 +94,7 @@ pub fn fields(record: &Record, history: &[Call], facts: &Facts) -> Result<(), St
     same("timer", record.timer, facts.timer)?;
     let time = window_time(history, history.len()).map_or(0, |(_, time)| time);
     same("partial", u64::from(record.partial), time % INCREMENT_MS)?;
-    same("clock and host", (record.clock, record.host), clock(history))?;
+    same("clock and host_set", (record.clock, record.host_set), clock(history))?;
     window("static window", &record.static_window, &facts.static_window)?;
     window("active window", &record.active_window, &facts.active_window)?;
     let debug = &record.debug;

@@ -61,7 +61,7 @@ pub struct Record {
     /// Active Bucket Timer, in increments of five minutes.
     pub timer: u16,
     /// Whether the host set the clock.
-    pub host: bool,
+    pub host_set: bool,
     padding: [u8; 1],
     /// Time since the timer's last increment, in ms.
     pub partial: u32,
@@ -138,7 +138,7 @@ layout!(DebugLog, 16, 8, { stamp: 0, latency: 8, source: 10, units: 12, padding:
 layout!(Record, 512, 8, {
     settings: 0,
     timer: 12,
-    host: 14,
+    host_set: 14,
     padding: 15,
     partial: 16,
     more_padding: 20,

@@ -15,7 +15,7 @@ use Rattle.monitor.specs.History.{Call, settings, completion, elapsed, clock, p
 use Rattle.monitor.specs.History.{after, playFrom, refusalOf, found, andThen, orElse}
 use Rattle.monitor.specs.Record.{afterSettings, afterElapsed, afterClock}
 use Rattle.events.proofs.records.Laws.{Made}
-use Rattle.events.specs.Records.{endRefusal, callOf, recordRefusal, recordReply, afterRecord, recordAt}
+use Rattle.events.specs.Records.{endRefusal, callOf, recordRefusal, recordAnswer, afterRecord, recordAt}
 use Rattle.events.specs.Records.{wholeRecords}
 use Rattle.events.specs.Records.{callsBefore, historyOf}
 use Rattle.events.specs.Records.{Refusal, refusalAt, firstRefusedFrom, firstRefused, acceptedRecords}
@@ -103,10 +103,10 @@ module _ (m : Monitor) (s : List ℕ) where
         Ran m s monitor i →
         r ≡ recordAt s i →
         next ≡ afterRecord monitor r →
-        done ≡ recordReply r →
+        done ≡ recordAnswer r →
         i < wholeRecords s →
         Ran m s next (i + 1)
-    unfolding callsBefore afterRecord recordReply
+    unfolding callsBefore afterRecord recordAnswer
     went-on (le, played, rest) er en ed h =
         let here : recordRefusal (recordAt s i) ≡ none = rw er at (not-refused (recordRefusal r) ed) in
         let more : wholeRecords s - i ≡ suc (wholeRecords s - suc i) = omega arith in
@@ -122,10 +122,10 @@ module _ (m : Monitor) (s : List ℕ) where
         Ran m s monitor i →
         r ≡ recordAt s i →
         next ≡ afterRecord monitor r →
-        refused n ≡ recordReply r →
+        refused n ≡ recordAnswer r →
         i < wholeRecords s →
         Stopped m s next (refusalAt i (some n))
-    unfolding acceptedRecords recordReply
+    unfolding acceptedRecords recordAnswer
     stopped n (le, played, rest) er en ed h =
         let refusal : recordRefusal r ≡ some n = refused-by (recordRefusal r) n ed in
         let here : recordRefusal (recordAt s i) ≡ some n = rw er at refusal in
@@ -178,7 +178,7 @@ module _ (m : Monitor) (r : List ℕ) (next : Monitor) (long : length r ≡ 16) 
       next ≡ playFrom m (callsBefore r (acceptedRecords r)) →
       some p ≡ firstRefused r →
       Made m r next (refused (p .number))
-  unfolding acceptedRecords callsBefore playFrom recordReply
+  unfolding acceptedRecords callsBefore playFrom recordAnswer
   refused-alone p en h =
       let refusal : recordRefusal r ≡ some (p .number) = which (recordRefusal r) p (h ∙ only) in
       let first : acceptedRecords r ≡ 0 = rw (← h) (at-zero (recordRefusal r) p (h ∙ only)) in
@@ -188,7 +188,7 @@ module _ (m : Monitor) (r : List ℕ) (next : Monitor) (long : length r ≡ 16) 
       next ≡ playFrom m (callsBefore r (acceptedRecords r)) →
       none ≡ firstRefused r →
       Made m r next done
-  unfolding acceptedRecords callsBefore afterRecord recordReply
+  unfolding acceptedRecords callsBefore afterRecord recordAnswer
   accepted-alone en h =
       let refusal : recordRefusal r ≡ none = no-refusal (recordRefusal r) (h ∙ only) in
       let one : wholeRecords r ≡ 1 = omega arith in

@@ -15,16 +15,16 @@ use lib.Seq.{take-all, getD-drop, paste, paste-suc}
 use Rattle.endian.specs.Bytes.{anySet}
 use Rattle.endian.specs.Loads.{number}
 use Rattle.endian.proofs.Numbers.{below, both-clear, first-set}
-use Rattle.monitor.specs.declared.commands.Completion.{Completion}
+use Rattle.monitor.specs.declared.commands.Command.{Command}
 use Rattle.monitor.specs.declared.record.Monitor.{Monitor}
-use Rattle.monitor.specs.Answers.{Reply, refused, done, ended, unlessRefused}
+use Rattle.monitor.specs.Answers.{CallAnswer, refused, done, ended, unlessRefused}
 use Rattle.monitor.specs.Commands.{saysCounter, counterOf}
 use Rattle.monitor.specs.History.{Call, completion, elapsed, clock, after, playFrom, refusalOf}
-use Rattle.monitor.specs.Record.{afterCompletion, elapsedReply}
+use Rattle.monitor.specs.Record.{afterCompletion, elapsedAnswer}
 use Rattle.monitor.specs.Refusals.{elapsedRefusal}
-use Rattle.events.specs.Records.{kindOf, part, unnamed, settingsOf, completionOf, elapsedOf, clockOf, callOfKind}
+use Rattle.events.specs.Records.{recordKind, part, unnamed, settingsBytes, commandOf, elapsedOf, clockOf, callOfKind}
 use Rattle.events.specs.Records.{callOf, isCompletion, isElapsed}
-use Rattle.events.specs.Records.{recordRefusal, recordReply, afterRecord}
+use Rattle.events.specs.Records.{recordRefusal, recordAnswer, afterRecord}
 
 -- a part of at most eight bytes is loaded whole
 pub loaded : (l : List ℕ) (n : ℕ) → n ≤ 8 → number (take 8 (take n l)) ≡ number (take n l)
@@ -81,26 +81,26 @@ pub thirteen-bytes :
     z ≡ replicate 4096 0 →
     s ≡ paste z 0 (drop 1 r) i →
     i ≡ 13 →
-    s ≡ settingsOf r
-unfolding settingsOf
+    s ≡ settingsBytes r
+unfolding settingsBytes
 thirteen-bytes z r s i ez es e = rw (es, e, ez)
 
 -- what a record's call, or none, makes of the monitor and answers
-abbrev pub Made : Monitor → List ℕ → Monitor → Reply → Type 0
-Made m r next reply = (next ≡ afterRecord m r) × (reply ≡ recordReply r)
+abbrev pub Made : Monitor → List ℕ → Monitor → CallAnswer → Type 0
+Made m r next answer = (next ≡ afterRecord m r) × (answer ≡ recordAnswer r)
 
-module _ (m : Monitor) (r : List ℕ) (next : Monitor) (reply : Reply) where
+module _ (m : Monitor) (r : List ℕ) (next : Monitor) (answer : CallAnswer) where
   pub stands-for :
       (c : Call) →
       callOf r ≡ some c →
       next ≡ after c m →
-      reply ≡ unlessRefused (refusalOf c) done →
-      Made m r next reply
-  unfolding afterRecord recordReply recordRefusal playFrom
+      answer ≡ unlessRefused (refusalOf c) done →
+      Made m r next answer
+  unfolding afterRecord recordAnswer recordRefusal playFrom
   stands-for c e n a = (rw e n, rw e a)
 
-  pub stands-for-none : callOf r ≡ none → next ≡ m → reply ≡ refused 11 → Made m r next reply
-  unfolding afterRecord recordReply recordRefusal playFrom
+  pub stands-for-none : callOf r ≡ none → next ≡ m → answer ≡ refused 11 → Made m r next answer
+  unfolding afterRecord recordAnswer recordRefusal playFrom
   stands-for-none e n a = (rw e n, rw e a)
 
 -- the kind and the bytes that it leaves unnamed decide
@@ -123,14 +123,14 @@ unfolding callOf
 not-sixteen r n = rw (ne-eqb (length r) 16 n)
 
 module _ (r : List ℕ) (sixteen : length r ≡ 16) where
-  by-kind : (k : ℕ) → kindOf r ≡ k → callOf r ≡ callOfKind k r
+  by-kind : (k : ℕ) → recordKind r ≡ k → callOf r ≡ callOfKind k r
   unfolding callOf
   by-kind k e = rw (eq-eqb (length r) 16 sixteen, e)
 
   pub known-call :
       (k : ℕ) (u : List ℕ) (c : Call) →
       callOfKind k r ≡ cond (anySet u) none (some c) →
-      kindOf r ≡ k →
+      recordKind r ≡ k →
       true ≡ not (anySet u) →
       callOf r ≡ some c
   known-call k u c d e h = by-kind k e ∙ (d ∙ known u c h)
@@ -138,7 +138,7 @@ module _ (r : List ℕ) (sixteen : length r ≡ 16) where
   pub no-call :
       (k : ℕ) (u : List ℕ) (c : Call) →
       callOfKind k r ≡ cond (anySet u) none (some c) →
-      kindOf r ≡ k →
+      recordKind r ≡ k →
       false ≡ not (anySet u) →
       callOf r ≡ none
   no-call k u c d e h = by-kind k e ∙ (d ∙ not-known u c h)
@@ -146,7 +146,7 @@ module _ (r : List ℕ) (sixteen : length r ≡ 16) where
   pub clock-call :
       (value : ℕ) →
       value ≡ number (take 8 (take 8 (drop 4 r))) →
-      kindOf r ≡ 4 →
+      recordKind r ≡ 4 →
       true ≡ not (anySet (unnamed 1 4 12 r)) →
       callOf r ≡ some (clock value)
   unfolding callOfKind clockOf
@@ -156,20 +156,20 @@ module _ (r : List ℕ) (sixteen : length r ≡ 16) where
   -- a record of a kind, with the bytes that it leaves unnamed clear
   is-kind :
       (k : ℕ) (u : List ℕ) →
-      (eqb (kindOf r) k && not (anySet u)) ≡ true →
-      (kindOf r ≡ k) × (true ≡ not (anySet u))
-  is-kind k u h = by (eqb (kindOf r) k) refl (not (anySet u)) h
+      (eqb (recordKind r) k && not (anySet u)) ≡ true →
+      (recordKind r ≡ k) × (true ≡ not (anySet u))
+  is-kind k u h = by (eqb (recordKind r) k) refl (not (anySet u)) h
     where
-      by : (e : Bool) → eqb (kindOf r) k ≡ e → (clear : Bool) → (e && clear) ≡ true → (kindOf r ≡ k) × (true ≡ clear)
-      by true e true h = (eqb-true (kindOf r) k e, refl)
+      by : (e : Bool) → eqb (recordKind r) k ≡ e → (clear : Bool) → (e && clear) ≡ true → (recordKind r ≡ k) × (true ≡ clear)
+      by true e true h = (eqb-true (recordKind r) k e, refl)
       by true e false h = (cc, cc)
       by false e clear h = (cc, cc)
 
-  pub completion-call : isCompletion r ≡ true → callOf r ≡ some (completion (completionOf r))
+  pub completion-call : isCompletion r ≡ true → callOf r ≡ some (completion (commandOf r))
   unfolding callOfKind isCompletion
   completion-call h =
       let is = is-kind 2 (unnamed 2 4 8 r) h in
-      known-call 2 (unnamed 2 4 8 r) (completion (completionOf r)) refl (is .0) (is .1)
+      known-call 2 (unnamed 2 4 8 r) (completion (commandOf r)) refl (is .0) (is .1)
 
   pub elapsed-call :
       (ms : ℕ) →
@@ -185,20 +185,20 @@ module _ (r : List ℕ) (sixteen : length r ≡ 16) where
   pub unknown-kind :
       isCompletion r ≡ false →
       isElapsed r ≡ false →
-      (kindOf r ≡ 1 → ⊥) →
-      (kindOf r ≡ 4 → ⊥) →
-      (kindOf r ≡ 5 → ⊥) →
+      (recordKind r ≡ 1 → ⊥) →
+      (recordKind r ≡ 4 → ⊥) →
+      (recordKind r ≡ 5 → ⊥) →
       callOf r ≡ none
   unfolding callOf callOfKind isCompletion isElapsed
   unknown-kind h2 h3 n1 n4 n5 =
       rw (
         eq-eqb (length r) 16 sixteen,
-        ne-eqb (kindOf r) 1 n1,
-        ne-eqb (kindOf r) 4 n4,
-        ne-eqb (kindOf r) 5 n5,
+        ne-eqb (recordKind r) 1 n1,
+        ne-eqb (recordKind r) 4 n4,
+        ne-eqb (recordKind r) 5 n5,
       )
-      (by (eqb (kindOf r) 2) (anySet (unnamed 2 4 8 r)) (completion (completionOf r)) _ h2
-      (by (eqb (kindOf r) 3) (anySet (unnamed 1 4 8 r)) (elapsed (elapsedOf r)) _ h3 refl))
+      (by (eqb (recordKind r) 2) (anySet (unnamed 2 4 8 r)) (completion (commandOf r)) _ h2
+      (by (eqb (recordKind r) 3) (anySet (unnamed 1 4 8 r)) (elapsed (elapsedOf r)) _ h3 refl))
     where
       by :
           (k u : Bool) (c : Call) (o : Option Call) →
@@ -211,24 +211,24 @@ module _ (r : List ℕ) (sixteen : length r ≡ 16) where
 
 -- a completion that counts for nothing leaves the monitor as it was
 pub passed-over :
-    (m : Monitor) (r : List ℕ) (c : Completion) (n : ℕ) →
+    (m : Monitor) (r : List ℕ) (c : Command) (n : ℕ) →
     length r ≡ 16 →
     isCompletion r ≡ true →
-    c ≡ completionOf r →
+    c ≡ commandOf r →
     saysCounter n ≡ counterOf (m .settings) c →
     n ≡ 12 →
     Made m r m done
 unfolding afterCompletion
 passed-over m r c n sixteen is e says twelve =
     let nothing : counterOf (m .settings) c ≡ none = sym says ∙ ap saysCounter twelve in
-    stands-for m r m done (completion (completionOf r)) (completion-call r sixteen is) (rw (rw e at nothing)) refl
+    stands-for m r m done (completion (commandOf r)) (completion-call r sixteen is) (rw (rw e at nothing)) refl
 
 -- elapsed time is turned away, or not, whatever becomes of the window
 pub turned-away :
     (m : Monitor) (ms n : ℕ) →
-    refused n ≡ elapsedReply m ms →
+    refused n ≡ elapsedAnswer m ms →
     refused n ≡ unlessRefused (elapsedRefusal ms) done
-unfolding elapsedReply
+unfolding elapsedAnswer
 turned-away m ms n h = by (elapsedRefusal ms) _ h
   where
     by : (o : Option ℕ) (e : Bool) → refused n ≡ unlessRefused o (ended e) → refused n ≡ unlessRefused o done
@@ -237,9 +237,9 @@ turned-away m ms n h = by (elapsedRefusal ms) _ h
 
 pub let-through :
     (m : Monitor) (ms : ℕ) (b : Bool) →
-    ended b ≡ elapsedReply m ms →
+    ended b ≡ elapsedAnswer m ms →
     done ≡ unlessRefused (elapsedRefusal ms) done
-unfolding elapsedReply
+unfolding elapsedAnswer
 let-through m ms b h = by (elapsedRefusal ms) _ h
   where
     by : (o : Option ℕ) (e : Bool) → ended b ≡ unlessRefused o (ended e) → done ≡ unlessRefused o done

@@ -152,7 +152,7 @@ drop-replicate (suc n) (suc m) =
 pub as-text :
     (t bytes : List ℕ) (r : ℕ) →
     Stored t 0 1140 (replicate 1140 0) bytes r →
-    _≡_ {A = Text} (record { bytes = bytes; length = r }) (asText t)
+    _≡_ {A = Text} (record { bytes = bytes; len = r }) (asText t)
 unfolding asText
 as-text t bytes r s =
     let b : 0 + length t ≤ length (replicate {A = ℕ} 1140 0) =

@@ -11,7 +11,7 @@ use borrow.Author.Tests.{lt-ltb, le-ltb}
 use lib.Dec.{eqb}
 use lib.ListN.{getD}
 use Rattle.logpage.specs.declared.Settings.{Settings}
-use Rattle.monitor.specs.declared.commands.Completion.{Completion}
+use Rattle.monitor.specs.declared.commands.Command.{Command}
 use Rattle.monitor.specs.Commands.{highestBelow, reaches, reachesA, bucketOf, kindOf, counterAt, counterOf}
 use Rattle.monitor.specs.Commands.{saysCounter}
 
@@ -70,7 +70,7 @@ bucket-below thresholds us zero = absent
 bucket-below thresholds us (suc n) =
     either (reaches us (getD thresholds n 0)) (present (omega arith)) (more (bucket-below thresholds us n))
 
-kind-below : (c : Completion) → Below 3 (kindOf c)
+kind-below : (c : Command) → Below 3 (kindOf c)
 unfolding kindOf
 kind-below c =
     either (eqb (c .opcode) 2) (present {x = 0} (omega arith))
@@ -86,19 +86,19 @@ inside : {n x : ℕ} → Below n (some x) → x < n
 inside (present h) = h
 
 -- there are four buckets
-pub bucket-few : (thresholds : List ℕ) (c : Completion) (b : ℕ) → bucketOf thresholds c ≡ some b → b < 4
+pub bucket-few : (thresholds : List ℕ) (c : Command) (b : ℕ) → bucketOf thresholds c ≡ some b → b < 4
 unfolding bucketOf
 bucket-few thresholds c b e = inside (rw e at (bucket-below thresholds (c .latency) 4))
 
 -- there are twelve counters
-pub counter-below : (s : Settings) (c : Completion) (n : ℕ) → counterOf s c ≡ some n → n < 12
+pub counter-below : (s : Settings) (c : Command) (n : ℕ) → counterOf s c ≡ some n → n < 12
 unfolding counterOf bucketOf
 counter-below s c n e =
     let at-a-bucket = at-below (bucket-below (s .thresholds) (c .latency) 4) (kind-below c) in
     inside (rw e at (either (s .enabled) (either (reachesA (s .thresholds) c) at-a-bucket absent) absent))
 
 -- With the monitor disabled it is not counted.
-pub counter-enabled : (s : Settings) (c : Completion) (n : ℕ) → counterOf s c ≡ some n → s .enabled ≡ true
+pub counter-enabled : (s : Settings) (c : Command) (n : ℕ) → counterOf s c ≡ some n → s .enabled ≡ true
 unfolding counterOf
 counter-enabled s c n e = by (s .enabled) refl
   where

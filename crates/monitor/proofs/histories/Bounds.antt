@@ -11,7 +11,7 @@ use lib.Pow.{pow-lt}
 use Rattle.logpage.specs.declared.Settings.{Settings}
 use Rattle.logpage.proofs.Apart.{FitsSettings, FitsWindow, FitsDebug, Fits}
 use Rattle.logpage.specs.Fields.{noSettings, noDebugLog}
-use Rattle.monitor.specs.declared.commands.Completion.{Completion}
+use Rattle.monitor.specs.declared.commands.Command.{Command}
 use Rattle.monitor.specs.Commands.{counterOf, millisecondsOf}
 use Rattle.monitor.specs.Facts.{inForce, sum, enablingIn, enablingIn, timerThreshold, enabledTime, whileEnabled}
 use Rattle.monitor.specs.Facts.{windowAt, timerAt, Counted, countedAt, filter, countOf, lastLoad, stampOf}
@@ -201,7 +201,7 @@ stamp-below : (load : Option Counted) → stampOf load < 18446744073709551616
 stamp-below none = omega arith
 stamp-below (some x) = omega (arith, clock-top (x .before))
 
-ms-below : (c : Completion) → millisecondsOf c < 65536
+ms-below : (c : Command) → millisecondsOf c < 65536
 unfolding millisecondsOf
 ms-below c = omega arith
 
@@ -217,14 +217,14 @@ few : (e : Effect) (past : Past) → Some OfTwelve (countedAt e past)
 few e past = by (completionIn e)
   where
     named :
-        (c : Completion) (o : Option ℕ) →
+        (c : Command) (o : Option ℕ) →
         counterOf (inForce past) c ≡ o →
         Some OfTwelve (found none (λ n. some (record { counter = n; command = c; before = past })) o)
     named c none q = tt
     named c (some n) q = counter-below (inForce past) c n q
 
     by :
-        (o : Option Completion) →
+        (o : Option Command) →
         Some OfTwelve (found none (λ c. found none (λ n. some (record { counter = n; command = c; before = past })) (counterOf (inForce past) c)) o)
     by none = tt
     by (some c) = named c (counterOf (inForce past) c) refl

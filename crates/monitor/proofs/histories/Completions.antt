@@ -10,12 +10,12 @@ use lib.Dec.{eqb}
 use lib.ListN.{getD, set}
 use borrow.Author.Tests.{eq-eqb, ne-eqb, eqb-true, eqb-false}
 use Rattle.logpage.specs.Fields.{unset, noDebugLog}
-use Rattle.monitor.specs.declared.commands.Completion.{Completion}
+use Rattle.monitor.specs.declared.commands.Command.{Command}
 use Rattle.monitor.specs.declared.record.Monitor.{Monitor}
 use Rattle.monitor.specs.Commands.{counterOf, millisecondsOf}
 use Rattle.monitor.specs.Counting.{bit, onceMore, loads, triggers, debugLog}
 use Rattle.monitor.specs.Claims.{loadedOf, recordOf}
-use Rattle.monitor.specs.Facts.{inForce, time, clockAt, hostAt, timerThreshold, enabledTime, windowAt, timerAt}
+use Rattle.monitor.specs.Facts.{inForce, time, clockAt, hostSetAt, timerThreshold, enabledTime, windowAt, timerAt}
 use Rattle.monitor.specs.Facts.{Counted, countedAt, filter, activeFor, staticFor, active, static, countOf}
 use Rattle.monitor.specs.Facts.{loadsAfter, orLoad, lastLoad, stampOf, latencyOf, each, windowFrom}
 use Rattle.monitor.specs.Facts.{discardIn, triggered, orEarliest, earliest, logOf, debugAt, sinceEnabled}
@@ -43,7 +43,7 @@ or-load x none = refl
 or-load x (some y) = refl
 
 -- a counted completion x, for counter n, of the active window
-module _ (past : Past) (c : Completion) (n : ℕ) where
+module _ (past : Past) (c : Command) (n : ℕ) where
   abbrev here-counted : Counted
   here-counted = record { counter = n; command = c; before = past }
 
@@ -145,7 +145,7 @@ module _ (past : Past) (c : Completion) (n : ℕ) where
 
   pub logs :
       cond (triggers (bit (inForce past .trigger) n) (debugAt past .stamp))
-      (debugLog n (clockAt past) (millisecondsOf c) (hostAt past)) (debugAt past) ≡
+      (debugLog n (clockAt past) (millisecondsOf c) (hostSetAt past)) (debugAt past) ≡
       found noDebugLog logOf (earliest (filter triggered (here-counted ∷ since discardIn countedAt past)))
   unfolding filter earliest debugAt triggers noDebugLog
   logs = by (bit (inForce past .trigger) n) (filter triggered (since discardIn countedAt past))
@@ -170,25 +170,25 @@ unfolding active
 all-active past g on n = all-those (activeFor past n) (λ x t f. here past on n x t f) (sinceEnabled past) (fine past g)
 
 -- the facts after a completion, by the counter that it counts for
-abbrev found-at : Past → Completion → Option ℕ → Option Counted
+abbrev found-at : Past → Command → Option ℕ → Option Counted
 found-at past c o = found none (λ n. some (record { counter = n; command = c; before = past })) o
 
-abbrev after-it : Past → Completion → Option ℕ → Monitor
+abbrev after-it : Past → Command → Option ℕ → Monitor
 after-it past c o =
-    described (inForce past) (timerAt past) (hostAt past) (enabledTime past % 300000) (clockAt past)
+    described (inForce past) (timerAt past) (hostSetAt past) (enabledTime past % 300000) (clockAt past)
     (found noDebugLog logOf (earliest (filter triggered
     (andThen (found-at past c o) (since discardIn countedAt past)))))
     (windowAt past)
     (andThen (found-at past c o) (sinceEnabled past))
 
 facts-after :
-    (past : Past) (c : Completion) →
+    (past : Past) (c : Command) →
     recordOf (completed c ∷ past) ≡ after-it past c (counterOf (inForce past) c)
-unfolding recordOf inForce clockAt hostAt timerAt windowAt enabledTime timerThreshold active static debugAt since latest
+unfolding recordOf inForce clockAt hostSetAt timerAt windowAt enabledTime timerThreshold active static debugAt since latest
 facts-after past c = refl
 
 not-counted-step :
-    (past : Past) (c : Completion) →
+    (past : Past) (c : Command) →
     counterOf (inForce past) c ≡ none →
     afterCompletion (recordOf past) c ≡ after-it past c none
 unfolding afterCompletion recordOf active static debugAt
@@ -197,7 +197,7 @@ not-counted-step past c e = rw e
 counted-step :
     (past : Past) →
     Good past →
-    (c : Completion) (n : ℕ) →
+    (c : Command) (n : ℕ) →
     counterOf (inForce past) c ≡ some n →
     afterCompletion (recordOf past) c ≡ after-it past c (some n)
 unfolding recordOf
@@ -213,7 +213,7 @@ counted-step past g c n e =
     (λ i. record {
       settings = inForce past;
       timer = timerAt past;
-      host = hostAt past;
+      «host_set» = hostSetAt past;
       partial = enabledTime past % 300000;
       clock = clockAt past;
       loaded = written past c n 0 into _ refl i;
@@ -224,14 +224,14 @@ counted-step past g c n e =
             counters = counted-more past c n few i;
             stamps = written past c n unset (λ x. clockAt (x .before)) _ refl i;
             latencies = written past c n 0 (λ x. millisecondsOf (x .command)) _ refl i;
-            units = written past c n false (λ x. hostAt (x .before)) _ refl i;
+            units = written past c n false (λ x. hostSetAt (x .before)) _ refl i;
           };
     })
 
 pub completion-step :
     (past : Past) →
     Good past →
-    (c : Completion) →
+    (c : Command) →
     afterCompletion (recordOf past) c ≡ recordOf (completed c ∷ past)
 completion-step past g c = by (counterOf (inForce past) c) refl ∙ sym (facts-after past c)
   where

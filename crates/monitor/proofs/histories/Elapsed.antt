@@ -12,13 +12,13 @@ use Rattle.logpage.specs.Fields.{emptyWindow}
 use Rattle.monitor.specs.declared.record.Monitor.{Monitor}
 use Rattle.monitor.specs.declared.timer.Tick.{Tick}
 use Rattle.monitor.specs.Claims.{loadedOf, recordOf}
-use Rattle.monitor.specs.Facts.{inForce, sum, clockAt, hostAt, timerThreshold, enabledTime, windowAt, timerAt}
+use Rattle.monitor.specs.Facts.{inForce, sum, clockAt, hostSetAt, timerThreshold, enabledTime, windowAt, timerAt}
 use Rattle.monitor.specs.Facts.{Counted}
 use Rattle.monitor.specs.Facts.{filter, activeFor, active, static, countOf, lastLoad, stampOf, latencyOf, unitsOf}
 use Rattle.monitor.specs.Facts.{each, windowFrom, debugAt, sinceEnabled}
 use Rattle.monitor.specs.History.{passed, Past, latest, since}
 use Rattle.monitor.specs.Answers.{ended}
-use Rattle.monitor.specs.Record.{noLoads, afterElapsed, elapsedReply}
+use Rattle.monitor.specs.Record.{noLoads, afterElapsed, elapsedAnswer}
 use Rattle.monitor.specs.Timer.{grown, tick, ticked}
 use Rattle.monitor.proofs.record.Laws.{moved, elapsed-accepted}
 use Rattle.monitor.proofs.histories.Facts.{Good, Fine, fine, span, enabled-threshold, enabled-positive, within}
@@ -30,7 +30,7 @@ use Rattle.monitor.proofs.histories.Windows.{goes-on, ends, ends-timer,
 -- the facts after time that brought the time while enabled to t
 abbrev after-time : Past → ℕ → ℕ → Monitor
 after-time past ms t =
-    described (inForce past) (t / 300000 - t / span past * timerThreshold past) (hostAt past) (t % 300000)
+    described (inForce past) (t / 300000 - t / span past * timerThreshold past) (hostSetAt past) (t % 300000)
     (grown (clockAt past) ms)
     (debugAt past) (t / span past) (sinceEnabled past)
 
@@ -47,9 +47,9 @@ unfolding clockAt latest since sum
 clock-after past ms = omega arith
 
 facts-after : (past : Past) (ms : ℕ) → recordOf (passed ms ∷ past) ≡ after-time past ms (enabledTime (passed ms ∷ past))
-unfolding recordOf inForce hostAt timerAt windowAt timerThreshold active static debugAt latest since
+unfolding recordOf inForce hostSetAt timerAt windowAt timerThreshold active static debugAt latest since
 facts-after past ms =
-    ap (λ n. described (inForce past) (timerAt (passed ms ∷ past)) (hostAt past)
+    ap (λ n. described (inForce past) (timerAt (passed ms ∷ past)) (hostSetAt past)
     (enabledTime (passed ms ∷ past) % 300000) n (debugAt past) (windowAt (passed ms ∷ past)) (sinceEnabled past))
     (clock-after past ms)
 
@@ -128,7 +128,7 @@ module _ (past : Past) (g : Good past) (ms : ℕ) (fits : ms ≤ 300000) where
   abbrev Comes : ℕ → Type 0
   Comes u =
       (afterElapsed (recordOf past) ms ≡ after-time past ms u)
-      × (elapsedReply (recordOf past) ms ≡ ended (ltb (windowAt past) (u / span past)))
+      × (elapsedAnswer (recordOf past) ms ≡ ended (ltb (windowAt past) (u / span past)))
 
   -- the record's own step, once the timer's is known
   comes :
@@ -187,7 +187,7 @@ module _ (past : Past) (g : Good past) (ms : ℕ) (fits : ms ≤ 300000) where
           (λ i. record {
             settings = inForce past;
             timer = 0;
-            host = hostAt past;
+            «host_set» = hostSetAt past;
             partial = t % 300000 + ms - 300000;
             clock = grown (clockAt past) ms;
             loaded = no-loads past g i;
@@ -214,6 +214,6 @@ module _ (past : Past) (g : Good past) (ms : ℕ) (fits : ms ≤ 300000) where
   pub elapsed-step : afterElapsed (recordOf past) ms ≡ recordOf (passed ms ∷ past)
   elapsed-step = came .0 ∙ sym (facts-after past ms)
 
-  pub elapsed-answer : elapsedReply (recordOf past) ms ≡ ended (ltb (windowAt past) (windowAt (passed ms ∷ past)))
+  pub elapsed-answer : elapsedAnswer (recordOf past) ms ≡ ended (ltb (windowAt past) (windowAt (passed ms ∷ past)))
   unfolding windowAt timerThreshold latest
   elapsed-answer = came .1

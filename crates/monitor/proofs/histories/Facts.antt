@@ -14,7 +14,7 @@ use Rattle.logpage.specs.declared.Settings.{Settings}
 use Rattle.monitor.specs.declared.record.Monitor.{Monitor}
 use Rattle.monitor.specs.Commands.{counterOf}
 use Rattle.monitor.specs.Claims.{loadedOf, recordOf}
-use Rattle.monitor.specs.Facts.{inForce, sum, time, clockAt, hostAt, timerThreshold, enabledTime, windowAt}
+use Rattle.monitor.specs.Facts.{inForce, sum, time, clockAt, hostSetAt, timerThreshold, enabledTime, windowAt}
 use Rattle.monitor.specs.Facts.{timerAt}
 use Rattle.monitor.specs.Facts.{Counted, filter, activeFor, active, static, orLoad, loadsAfter, lastLoad}
 use Rattle.monitor.specs.Facts.{each, windowFrom, debugAt, sinceEnabled}
@@ -182,15 +182,15 @@ preceding w k x = eqb (windowAt (x .before) + 1) w && eqb (x .counter) k
 -- the record that facts describe, w the number of the active window, xs the completions counted since it was enabled
 abbrev pub described :
     Settings →
-    (timer : ℕ) (host : Bool) (partial clock : ℕ) →
+    (timer : ℕ) (hostSet : Bool) (partial clock : ℕ) →
     DebugLog →
     (w : ℕ) (xs : List Counted) →
     Monitor
-described settings timer host partial clock debug w xs =
+described settings timer hostSet partial clock debug w xs =
     record {
       settings = settings;
       timer = timer;
-      host = host;
+      «host_set» = hostSet;
       partial = partial;
       clock = clock;
       loaded = each (λ k. loadedOf (lastLoad (filter (within w k) xs)));
@@ -202,7 +202,7 @@ described settings timer host partial clock debug w xs =
 pub as-described :
     (past : Past) →
     recordOf past ≡
-    described (inForce past) (timerAt past) (hostAt past) (enabledTime past % 300000) (clockAt past) (debugAt past)
+    described (inForce past) (timerAt past) (hostSetAt past) (enabledTime past % 300000) (clockAt past) (debugAt past)
     (windowAt past)
     (sinceEnabled past)
 unfolding recordOf active static

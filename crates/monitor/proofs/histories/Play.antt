@@ -12,14 +12,14 @@ use Rattle.logpage.specs.Fields.{emptyWindow, noDebugLog}
 use Rattle.monitor.specs.declared.record.Monitor.{Monitor}
 use Rattle.monitor.specs.Answers.{refused, ended, unlessRefused}
 use Rattle.monitor.specs.Claims.{recordOf, PlayedAsFacts, WindowEnds}
-use Rattle.monitor.specs.Facts.{inForce, sum, clockAt, hostAt, timerThreshold, enabledTime, windowAt, timerAt}
+use Rattle.monitor.specs.Facts.{inForce, sum, clockAt, hostSetAt, timerThreshold, enabledTime, windowAt, timerAt}
 use Rattle.monitor.specs.Facts.{Counted, countedAt, filter, active, static, countOf, lastLoad, from, discardIn}
 use Rattle.monitor.specs.Facts.{triggered, earliest, logOf, debugAt, sinceEnabled}
 use Rattle.monitor.specs.History.{Call, settings, completion, elapsed, clock, powerUp, page, settingsBack}
 use Rattle.monitor.specs.History.{History, after, playFrom, Effect, configured, clockSet, poweredUp, nothing}
 use Rattle.monitor.specs.History.{passed, asked, refusalOf, ifAccepted, Past, pastOf, found, latest, since}
 use Rattle.monitor.specs.History.{unlessFound, onlyIf}
-use Rattle.monitor.specs.Record.{newMonitor, afterSettings, afterElapsed, elapsedReply, afterClock, afterPowerUp}
+use Rattle.monitor.specs.Record.{newMonitor, afterSettings, afterElapsed, elapsedAnswer, afterClock, afterPowerUp}
 use Rattle.monitor.specs.Refusals.{settingsRefusal, elapsedRefusal, clockRefusal, pageRefusal}
 use Rattle.monitor.specs.Refusals.{settingsBackRefusal}
 use Rattle.monitor.specs.Settings.{decoded, discard}
@@ -66,7 +66,7 @@ module _ (past : Past) (s : List ℕ) where
   -- the record of the facts, of these four
   abbrev of-these : ℕ → ℕ → List Counted → Monitor
   of-these t p xs =
-      described (decoded s) (t / 300000 - t / (300000 * p) * p) (hostAt past) (t % 300000) (clockAt past)
+      described (decoded s) (t / 300000 - t / (300000 * p) * p) (hostSetAt past) (t % 300000) (clockAt past)
       (cond (eqb (discard s) 1) noDebugLog (debugAt past))
       (t / (300000 * p))
       xs
@@ -75,7 +75,7 @@ module _ (past : Past) (s : List ℕ) where
       recordOf (configured s ∷ past) ≡
       of-these (enabledTime (configured s ∷ past)) (timerThreshold (configured s ∷ past))
       (sinceEnabled (configured s ∷ past))
-  unfolding recordOf inForce clockAt hostAt timerAt windowAt active static latest since
+  unfolding recordOf inForce clockAt hostSetAt timerAt windowAt active static latest since
   facts-after = rw debug-after
 
   emptied-or-kept :
@@ -101,7 +101,7 @@ clock-step :
     (past : Past) (value : ℕ) →
     value ≤ 281474976710655 →
     afterClock (recordOf past) value ≡ recordOf (clockSet value ∷ past)
-unfolding afterClock clockRefusal recordOf inForce clockAt hostAt timerAt windowAt enabledTime timerThreshold active static debugAt latest since sum
+unfolding afterClock clockRefusal recordOf inForce clockAt hostSetAt timerAt windowAt enabledTime timerThreshold active static debugAt latest since sum
 clock-step past value h =
     let e : value ≡ min (value + 0) 281474976710655 = omega arith in
     rw (le-ltb 281474976710655 value h)
@@ -109,15 +109,15 @@ clock-step past value h =
     (windowAt past) (sinceEnabled past)) e)
 
 power-up-step : (past : Past) → afterPowerUp (recordOf past) ≡ recordOf (poweredUp ∷ past)
-unfolding afterPowerUp recordOf inForce clockAt hostAt timerAt windowAt enabledTime timerThreshold active static debugAt latest since sum
+unfolding afterPowerUp recordOf inForce clockAt hostSetAt timerAt windowAt enabledTime timerThreshold active static debugAt latest since sum
 power-up-step past = refl
 
 nothing-step : (past : Past) → recordOf past ≡ recordOf (nothing ∷ past)
-unfolding recordOf inForce clockAt hostAt timerAt windowAt enabledTime timerThreshold active static debugAt latest since sum
+unfolding recordOf inForce clockAt hostSetAt timerAt windowAt enabledTime timerThreshold active static debugAt latest since sum
 nothing-step past = refl
 
 new-step : newMonitor ≡ recordOf []
-unfolding newMonitor recordOf inForce clockAt hostAt timerAt windowAt enabledTime timerThreshold active static debugAt latest since sum emptyWindow filter lastLoad countOf from earliest
+unfolding newMonitor recordOf inForce clockAt hostSetAt timerAt windowAt enabledTime timerThreshold active static debugAt latest since sum emptyWindow filter lastLoad countOf from earliest
 new-step = refl
 
 -- a refused call
@@ -130,8 +130,8 @@ module _ (m : Monitor) (n : ℕ) where
   unfolding afterElapsed
   elapsed-kept ms e = rw e
 
-  elapsed-refused : (ms : ℕ) → elapsedRefusal ms ≡ some n → elapsedReply m ms ≡ refused n
-  unfolding elapsedReply
+  elapsed-refused : (ms : ℕ) → elapsedRefusal ms ≡ some n → elapsedAnswer m ms ≡ refused n
+  unfolding elapsedAnswer
   elapsed-refused ms e = rw e
 
   clock-kept : (value : ℕ) → clockRefusal value ≡ some n → afterClock m value ≡ m
@@ -181,12 +181,12 @@ played-as-facts [] = new-step
 played-as-facts (c ∷ h) = ap (after c) (played-as-facts h) ∙ step (pastOf h) (good h) c .1
 
 pub window-ends : WindowEnds
-window-ends h ms = ap (λ m. elapsedReply m ms) (played-as-facts h) ∙ by (elapsedRefusal ms) refl
+window-ends h ms = ap (λ m. elapsedAnswer m ms) (played-as-facts h) ∙ by (elapsedRefusal ms) refl
   where
     by :
         (r : Option ℕ) →
         elapsedRefusal ms ≡ r →
-        elapsedReply (recordOf (pastOf h)) ms ≡
+        elapsedAnswer (recordOf (pastOf h)) ms ≡
         unlessRefused r (ended (ltb (windowAt (pastOf h)) (windowAt (ifAccepted r (passed ms) ∷ pastOf h))))
     by none e = elapsed-answer (pastOf h) (good h) ms (elapsed-fits ms e)
     by (some n) e = elapsed-refused (recordOf (pastOf h)) n ms e

@@ -10,7 +10,7 @@ use borrow.Author.Tests.{le-ltb}
 use Rattle.logpage.specs.Fields.{windowOf, emptyWindow, noDebugLog}
 use Rattle.logpage.specs.declared.DebugLog.{DebugLog}
 use Rattle.logpage.specs.declared.Settings.{Settings}
-use Rattle.monitor.specs.declared.commands.Completion.{Completion}
+use Rattle.monitor.specs.declared.commands.Command.{Command}
 use Rattle.monitor.specs.declared.record.Monitor.{Monitor}
 use Rattle.monitor.specs.declared.timer.Tick.{Tick}
 use Rattle.monitor.specs.Answers.{done, refused, notCounted, counted, ended, unlessRefused}
@@ -21,15 +21,15 @@ use Rattle.monitor.specs.Commands.{saysCounter, counterOf, millisecondsO
 use Rattle.monitor.specs.Timer.{grown, ticked, inWindow}
 use Rattle.monitor.proofs.settings.Laws.{refused-by}
 use Rattle.monitor.proofs.commands.Laws.{named, unnamed}
-use Rattle.monitor.specs.Record.{noLoads, afterSettings, settingsReply, afterCompletion, completionReply}
-use Rattle.monitor.specs.Record.{afterElapsed, elapsedReply, loadsAt}
+use Rattle.monitor.specs.Record.{noLoads, afterSettings, settingsAnswer, afterCompletion, completionAnswer}
+use Rattle.monitor.specs.Record.{afterElapsed, elapsedAnswer, loadsAt}
 
 -- settings that are turned away
 pub settings-refused :
     (m : Monitor) (s : List ℕ) (n : ℕ) →
     refused n ≡ unlessRefused (settingsRefusal s) done →
-    (m ≡ afterSettings m s) × (refused n ≡ settingsReply s)
-unfolding afterSettings settingsReply
+    (m ≡ afterSettings m s) × (refused n ≡ settingsAnswer s)
+unfolding afterSettings settingsAnswer
 settings-refused m s n e = (rw (refused-by (settingsRefusal s) n e), e)
 
 -- settings that are accepted, by whether they enable
@@ -38,7 +38,7 @@ configured m next debug on =
     record {
       settings = next;
       timer = cond on 0 (m .timer);
-      host = m .host;
+      «host_set» = m .«host_set»;
       partial = cond on 0 (m .partial);
       clock = m .clock;
       loaded = cond on noLoads (m .loaded);
@@ -53,18 +53,18 @@ pub settings-accepted :
     next ≡ decoded s →
     debug ≡ cond (eqb (discard s) 1) noDebugLog (m .debug) →
     next .enabled ≡ on →
-    (configured m next debug on ≡ afterSettings m s) × (done ≡ settingsReply s)
-unfolding afterSettings settingsReply
+    (configured m next debug on ≡ afterSettings m s) × (done ≡ settingsAnswer s)
+unfolding afterSettings settingsAnswer
 settings-accepted m s next debug on accepted read keeps enables =
     (rw (accepted, ← read, ← enables, keeps), rw accepted)
 
 -- a completion that is not counted
 pub not-counted :
-    (m : Monitor) (c : Completion) (n : ℕ) →
+    (m : Monitor) (c : Command) (n : ℕ) →
     saysCounter n ≡ counterOf (m .settings) c →
     12 ≤ n →
-    (m ≡ afterCompletion m c) × (notCounted ≡ completionReply m c)
-unfolding afterCompletion completionReply
+    (m ≡ afterCompletion m c) × (notCounted ≡ completionAnswer m c)
+unfolding afterCompletion completionAnswer
 not-counted m c n says h = let none-at = sym says ∙ unnamed n h in (rw none-at, rw none-at)
 
 -- what a counted completion writes, by whether it loads the stamp
@@ -73,7 +73,7 @@ recorded m n ms log counters load =
     record {
       settings = m .settings;
       timer = m .timer;
-      host = m .host;
+      «host_set» = m .«host_set»;
       partial = m .partial;
       clock = m .clock;
       loaded = cond load (set (m .loaded) n (inWindow (m .timer) (m .partial))) (m .loaded);
@@ -83,30 +83,30 @@ recorded m n ms log counters load =
           windowOf counters
           (cond load (set (m .«active_window» .stamps) n (m .clock)) (m .«active_window» .stamps))
           (cond load (set (m .«active_window» .latencies) n ms) (m .«active_window» .latencies))
-          (cond load (set (m .«active_window» .units) n (m .host)) (m .«active_window» .units));
+          (cond load (set (m .«active_window» .units) n (m .«host_set»)) (m .«active_window» .units));
     }
 
 -- what is known once it is decided whether the stamp is loaded
-pub record Decided (m : Monitor) (c : Completion) (n ms : ℕ) (log : DebugLog) (counters : List ℕ) (debug load : Bool) : Type 0 where
+pub record Decided (m : Monitor) (c : Command) (n ms : ℕ) (log : DebugLog) (counters : List ℕ) (debug load : Bool) : Type 0 where
   pub next : recorded m n ms log counters load ≡ afterCompletion m c
-  pub reply : counted n load debug ≡ completionReply m c
+  pub answer : counted n load debug ≡ completionAnswer m c
 
 pub decide :
-    (m : Monitor) (c : Completion) (n ms : ℕ) (log : DebugLog) (counters : List ℕ) (debug load : Bool) →
+    (m : Monitor) (c : Command) (n ms : ℕ) (log : DebugLog) (counters : List ℕ) (debug load : Bool) →
     saysCounter n ≡ counterOf (m .settings) c →
     n < 12 →
     ms ≡ millisecondsOf c →
     debug ≡ triggers (bit (m .settings .trigger) n) (m .debug .stamp) →
-    log ≡ cond debug (debugLog n (m .clock) ms (m .host)) (m .debug) →
+    log ≡ cond debug (debugLog n (m .clock) ms (m .«host_set»)) (m .debug) →
     counters ≡ set (m .«active_window» .counters) n (onceMore (getD (m .«active_window» .counters) n 0)) →
     load ≡ loadsAt m n ms →
     Decided m c n ms log counters debug load
-unfolding afterCompletion completionReply countedIn
+unfolding afterCompletion completionAnswer countedIn
 decide m c n ms log counters debug load says few measured takes logs counts loading =
     let chosen : counterOf (m .settings) c ≡ some n = sym says ∙ named n few in
     record {
       next = rw (chosen, ← measured, ← loading, ← takes, ← logs, ← counts);
-      reply = rw (chosen, ← measured, ← loading, ← takes);
+      answer = rw (chosen, ← measured, ← loading, ← takes);
     }
 
 -- elapsed time that is accepted, by whether the window ends
@@ -115,7 +115,7 @@ moved m clock t expired =
     record {
       settings = m .settings;
       timer = t .timer;
-      host = m .host;
+      «host_set» = m .«host_set»;
       partial = t .partial;
       clock = clock;
       loaded = cond expired noLoads (m .loaded);
@@ -130,7 +130,7 @@ pub elapsed-accepted :
     t ≡ ticked (m .settings .enabled) (m .settings .«timer_threshold») (m .timer) (m .partial) ms →
     clock ≡ grown (m .clock) ms →
     t .expired ≡ expired →
-    (moved m clock t expired ≡ afterElapsed m ms) × (ended expired ≡ elapsedReply m ms)
-unfolding afterElapsed elapsedReply elapsedRefusal
+    (moved m clock t expired ≡ afterElapsed m ms) × (ended expired ≡ elapsedAnswer m ms)
+unfolding afterElapsed elapsedAnswer elapsedRefusal
 elapsed-accepted m ms clock t expired fits ticks grows ends =
     (rw (le-ltb _ _ fits, ← ticks, ← ends, grows), rw (le-ltb _ _ fits, ← ticks, ends))

@@ -8,22 +8,22 @@ use lib.ListN.{length}
 use borrow.Author.Tests.{eq-eqb, ne-eqb}
 use Rattle.logpage.specs.Page.{pageBytes}
 use Rattle.monitor.specs.declared.record.Monitor.{Monitor}
-use Rattle.monitor.specs.Answers.{Reply, done, refused}
+use Rattle.monitor.specs.Answers.{CallAnswer, done, refused}
 use Rattle.monitor.specs.Claims.{pageByFacts, settingsByFacts}
 use Rattle.monitor.specs.History.{History, OfBytes, play}
 use Rattle.monitor.specs.Record.{untouchedIf}
 use Rattle.monitor.specs.Refusals.{pageRefusal, settingsBackRefusal}
-use Rattle.monitor.specs.Report.{fieldsOf, pageOf, afterPage, pageReply, settingsOf, afterSettingsBack}
-use Rattle.monitor.specs.Report.{settingsBackReply}
+use Rattle.monitor.specs.Report.{fieldsOf, pageOf, afterPage, pageAnswer, settingsOf, afterSettingsBack}
+use Rattle.monitor.specs.Report.{settingsBackAnswer}
 use Rattle.monitor.specs.Settings.{encoded}
 use Rattle.monitor.proofs.histories.Given.{page-shows-facts, settings-come-back}
 
 module _ (m : Monitor) (buffer after : List ℕ) where
   -- what `page` promises
-  abbrev pub PageSays : Reply → Type 0
-  PageSays reply =
+  abbrev pub PageSays : CallAnswer → Type 0
+  PageSays answer =
       (after ≡ afterPage m buffer)
-      × ((reply ≡ pageReply (length buffer)) × ((h : History) → m ≡ play h → after ≡ pageByFacts h buffer))
+      × ((answer ≡ pageAnswer (length buffer)) × ((h : History) → m ≡ play h → after ≡ pageByFacts h buffer))
 
   page-by-facts : after ≡ afterPage m buffer → (h : History) → m ≡ play h → after ≡ pageByFacts h buffer
   unfolding afterPage pageByFacts
@@ -32,22 +32,22 @@ module _ (m : Monitor) (buffer after : List ℕ) where
 
   module _ (bytes : after ≡ cond (eqb (length buffer) 512) (pageBytes (fieldsOf m)) buffer) where
     pub page-written : true ≡ eqb (length buffer) 512 → PageSays done
-    unfolding afterPage pageReply pageRefusal pageOf
+    unfolding afterPage pageAnswer pageRefusal pageOf
     page-written fits =
         let e : after ≡ afterPage m buffer = bytes ∙ rw (← fits) in
         (e, (rw (← fits), page-by-facts e))
 
     pub page-refused : false ≡ eqb (length buffer) 512 → PageSays (refused 9)
-    unfolding afterPage pageReply pageRefusal
+    unfolding afterPage pageAnswer pageRefusal
     page-refused other =
         let e : after ≡ afterPage m buffer = bytes ∙ rw (← other) in
         (e, (rw (← other), page-by-facts e))
 
   -- what `settings_back` promises
-  abbrev pub SettingsSay : Reply → Type 0
-  SettingsSay reply =
+  abbrev pub SettingsSay : CallAnswer → Type 0
+  SettingsSay answer =
       (after ≡ afterSettingsBack m buffer)
-      × ((reply ≡ settingsBackReply (length buffer)) ×
+      × ((answer ≡ settingsBackAnswer (length buffer)) ×
       ((h : History) → OfBytes h → m ≡ play h → after ≡ settingsByFacts h buffer))
 
   settings-by-facts :
@@ -61,13 +61,13 @@ module _ (m : Monitor) (buffer after : List ℕ) where
       e ∙ ap (untouchedIf (settingsBackRefusal (length buffer)) buffer) (ap settingsOf leads ∙ settings-come-back h b)
 
   pub settings-written : length buffer ≡ 4096 → after ≡ encoded (m .settings) → SettingsSay done
-  unfolding afterSettingsBack settingsBackReply settingsBackRefusal settingsOf
+  unfolding afterSettingsBack settingsBackAnswer settingsBackRefusal settingsOf
   settings-written fits bytes =
       let e : after ≡ afterSettingsBack m buffer = bytes ∙ rw (eq-eqb (length buffer) 4096 fits) in
       (e, (rw (eq-eqb (length buffer) 4096 fits), settings-by-facts e))
 
   pub settings-refused : (length buffer ≡ 4096 → ⊥) → after ≡ buffer → SettingsSay (refused 10)
-  unfolding afterSettingsBack settingsBackReply settingsBackRefusal
+  unfolding afterSettingsBack settingsBackAnswer settingsBackRefusal
   settings-refused other kept =
       let e : after ≡ afterSettingsBack m buffer = kept ∙ rw (ne-eqb (length buffer) 4096 other) in
       (e, (rw (ne-eqb (length buffer) 4096 other), settings-by-facts e))

@@ -5,7 +5,7 @@ use native.Mathlib.Omega.{arith}
 use borrow.Author.Needs.{needs}
 use lib.ListN.{length, length-drop}
 use borrow.Rule.Slice.PartAt.{part-to-end}
-use Rattle.events.specs.Records.{saysPlace}
+use Rattle.events.specs.Records.{saysHalt}
 use Rattle.events.proofs.Bounds.{in-file}
 use Rattle.page.proofs.records.Statement.{statement}
 use Rattle.page.proofs.records.Tie as tie
@@ -34,14 +34,14 @@ part-run-end c = search needs
 run-requires : tie.Need-run-requires Inv-loop μ-loop
 run-requires c κs = search needs
 
-enum-known-at : tie.Need-enum-known-at Inv-loop μ-loop
-enum-known-at c = search needs
+enum-known-halt : tie.Need-enum-known-halt Inv-loop μ-loop
+enum-known-halt c = search needs
 
 -- the refused record
 past :
     (c : tie.After-known-told Inv-loop μ-loop) →
     let u = c .before .before .before .before in
-    u .before .before .loop .i + c .before .at .given .0 .0 < length
+    u .before .before .loop .i + c .before .halt .given .0 .0 < length
     (u .before .before .before .before .args .s .now) / 16
 past c =
     let u = c .before .before .before .before in
@@ -49,7 +49,7 @@ past c =
     let e = rw (part-to-end _ (16 * i)) at (u .run .ensures .1) in
     omega (
       arith,
-      in-file _ _ (sym (ap saysPlace (c .before .at .given .1)) ∙ e),
+      in-file _ _ (sym (ap saysHalt (c .before .halt .given .1)) ∙ e),
       length-drop (16 * i) (u .before .before .before .before .args .s .now),
     )
 
@@ -89,7 +89,7 @@ records-spec =
     part-run-start
     part-run-end
     run-requires
-    enum-known-at
+    enum-known-halt
     add-i
     add-refused
     refused-requires

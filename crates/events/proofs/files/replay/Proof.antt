@@ -5,7 +5,7 @@ use native.Mathlib.Omega.{arith}
 use borrow.Author.Needs.{needs}
 use borrow.Rule.Slice.PartAt.{part-to-end}
 use Rattle.monitor.specs.History.{playFrom}
-use Rattle.events.specs.Records.{wholeRecords, callsBefore, saysPlace}
+use Rattle.events.specs.Records.{wholeRecords, callsBefore, saysHalt}
 use Rattle.events.proofs.files.Laws.{Replayed, skipped, replayed}
 use Rattle.events.proofs.files.replay.Statement.{statement}
 use Rattle.events.proofs.files.replay.Tie as tie
@@ -35,8 +35,8 @@ part-run-end c = search needs
 run-requires : tie.Need-run-requires Inv-loop μ-loop
 run-requires c κs = search needs
 
-enum-known-at : tie.Need-enum-known-at Inv-loop μ-loop
-enum-known-at c = search needs
+enum-known-halt : tie.Need-enum-known-halt Inv-loop μ-loop
+enum-known-halt c = search needs
 
 -- what a run leaves that stopped at a refused record
 past :
@@ -44,12 +44,12 @@ past :
     Replayed (c .before .before .before .before .before .before .before .before .args .m)
     (c .before .before .before .before .before .before .before .before .args .s .now)
     (c .before .before .before .before .run .result .monitor)
-    (c .before .before .before .before .before .before .loop .i + c .before .at .given .0 .0 + 1)
+    (c .before .before .before .before .before .before .loop .i + c .before .halt .given .0 .0 + 1)
 past c =
     let u = c .before .before .before .before in
     let l = u .before .before .loop in
     let e = rw (part-to-end _ (16 * l .i)) at (u .run .ensures) in
-    skipped _ _ _ _ (l .i) _ (l .inv) (e .0, sym (ap saysPlace (c .before .at .given .1)) ∙ e .1)
+    skipped _ _ _ _ (l .i) _ (l .inv) (e .0, sym (ap saysHalt (c .before .halt .given .1)) ∙ e .1)
 
 add-i : tie.Need-add-i Inv-loop μ-loop
 add-i c = omega (arith, past c .0)
@@ -71,7 +71,7 @@ returns c =
     let u = c .before .before .before in
     let l = u .before .before .loop in
     let e = rw (part-to-end _ (16 * l .i)) at (u .run .ensures) in
-    replayed _ _ _ _ (l .i) (l .inv) (e .0, sym (ap saysPlace (c .enum-told .given .1)) ∙ e .1)
+    replayed _ _ _ _ (l .i) (l .inv) (e .0, sym (ap saysHalt (c .enum-told .given .1)) ∙ e .1)
 
 pub replay-spec : {M : Type 1} → statement M
 replay-spec =
@@ -85,7 +85,7 @@ replay-spec =
     part-run-start
     part-run-end
     run-requires
-    enum-known-at
+    enum-known-halt
     add-i
     add-i-2
     loop-less

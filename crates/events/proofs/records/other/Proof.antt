@@ -1,7 +1,7 @@
 -- `other`: each kind with its unnamed bytes zero, and with one of them set; no kind.
 use mathlib.Core.Path.{refl, sym, _∙_}
 use Rattle.monitor.specs.History.{powerUp}
-use Rattle.monitor.specs.Record.{settingsReply, clockReply}
+use Rattle.monitor.specs.Record.{settingsAnswer, clockAnswer}
 use Rattle.events.specs.Records.{callOfKind}
 use Rattle.events.proofs.records.Laws.{stands-for, stands-for-none, known-call, no-call, clock-call}
 use Rattle.events.proofs.records.Laws.{unknown-kind}
@@ -55,7 +55,7 @@ unknown-requires-4 : tie.Need-unknown-requires-4
 unknown-requires-4 c κs = search needs
 
 returns : tie.Need-returns
-unfolding callOfKind settingsReply
+unfolding callOfKind settingsAnswer
 returns c =
     let l = c .before .before .before in
     stands-for _ _ _ _ _
@@ -75,7 +75,7 @@ returns-2 c =
     (c .unknown .ensures .1)
 
 returns-3 : tie.Need-returns-3
-unfolding clockReply
+unfolding clockAnswer
 returns-3 c =
     let l = c .before .before .before .before .before in
     stands-for _ _ _ _ _

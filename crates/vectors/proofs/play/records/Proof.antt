@@ -34,8 +34,8 @@ part-run-end c = search needs
 run-requires : tie.Need-run-requires Inv-loop μ-loop
 run-requires c κs = search needs
 
-enum-known-at : tie.Need-enum-known-at Inv-loop μ-loop
-enum-known-at c = search needs
+enum-known-halt : tie.Need-enum-known-halt Inv-loop μ-loop
+enum-known-halt c = search needs
 
 stopped-requires : tie.Need-stopped-requires Inv-loop μ-loop
 stopped-requires c κs = search needs
@@ -78,7 +78,7 @@ records-spec =
     part-run-start
     part-run-end
     run-requires
-    enum-known-at
+    enum-known-halt
     stopped-requires
     add-i
     refused-requires

@@ -92,13 +92,13 @@ returns : tie.Need-returns
 returns c =
     let then = c .before .before .before .before .before .before in
     let d = decided (then .before) true (then .if2 .taken) in
-    (rw (c .of .ensures, c .before .in-window .ensures) (d .next), d .reply)
+    (rw (c .of .ensures, c .before .in-window .ensures) (d .next), d .answer)
 
 returns-2 : tie.Need-returns-2
 returns-2 c =
     let else = c .before .before .before .before in
     let d = decided (else .before) false (else .if2 .left) in
-    (rw (c .of2 .ensures) (d .next), d .reply)
+    (rw (c .of2 .ensures) (d .next), d .answer)
 
 returns-3 : tie.Need-returns-3
 returns-3 c = not-counted _ _ _ (c .before .counter .ensures) (c .if1 .left)

@@ -2,7 +2,7 @@
 use borrow.Author.Tests.{lt-ltb}
 use Rattle.monitor.specs.Refusals.{elapsedRefusal}
 use Rattle.monitor.proofs.record.Laws.{elapsed-accepted}
-use Rattle.monitor.specs.Record.{afterElapsed, elapsedReply}
+use Rattle.monitor.specs.Record.{afterElapsed, elapsedAnswer}
 use borrow.Author.Needs.{needs}
 use Rattle.monitor.proofs.record.Monitor.elapsed.Statement.{statement}
 use Rattle.monitor.proofs.record.Monitor.elapsed.Tie as tie
@@ -28,7 +28,7 @@ returns-2 c =
     elapsed-accepted _ _ _ _ _ (t .before .if1 .taken) (t .ticked .ensures) (c .before .grown .ensures) (c .if2 .left)
 
 returns-3 : tie.Need-returns-3
-unfolding afterElapsed elapsedReply elapsedRefusal
+unfolding afterElapsed elapsedAnswer elapsedRefusal
 returns-3 c = (simp (lt-ltb _ _ (c .if1 .left)), simp (lt-ltb _ _ (c .if1 .left)))
 
 pub elapsed-spec : {M : Type 1} → statement M

@@ -2,18 +2,18 @@
 use native.Mathlib.Omega.{arith}
 use borrow.Author.Tests.{lt-ltb, le-ltb}
 use Rattle.monitor.specs.Refusals.{clockRefusal}
-use Rattle.monitor.specs.Record.{afterClock, clockReply}
+use Rattle.monitor.specs.Record.{afterClock, clockAnswer}
 use Rattle.monitor.proofs.record.Monitor.set_clock.Statement.{statement}
 use Rattle.monitor.proofs.record.Monitor.set_clock.Tie as tie
 
 returns : tie.Need-returns
-unfolding afterClock clockReply clockRefusal
+unfolding afterClock clockAnswer clockRefusal
 returns c =
     let fits = le-ltb 281474976710655 (c .before .args .value) (omega arith) in
     (simp fits, simp fits)
 
 returns-2 : tie.Need-returns-2
-unfolding afterClock clockReply clockRefusal
+unfolding afterClock clockAnswer clockRefusal
 returns-2 c =
     let above = lt-ltb 281474976710655 (c .before .args .value) (omega arith) in
     (simp above, simp above)

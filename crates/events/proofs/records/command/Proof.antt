@@ -1,0 +1,47 @@
+-- `completion`: four bytes are loaded whole, and fit.
+use native.Mathlib.Omega.{arith}
+use lib.ListN.{drop}
+use Rattle.events.specs.Records.{commandOf}
+use Rattle.events.proofs.records.Laws.{loaded, fits}
+use borrow.Author.Needs.{needs}
+use Rattle.events.proofs.records.command.Statement.{statement}
+use Rattle.events.proofs.records.command.Tie as tie
+
+shared-slice-read-t3 : tie.Need-shared-slice-read-t3
+shared-slice-read-t3 c = search needs
+
+sub-load : tie.Need-sub-load
+sub-load c = search needs
+
+part-load-start : tie.Need-part-load-start
+part-load-start c = search needs
+
+part-load-end : tie.Need-part-load-end
+part-load-end c = search needs
+
+load-requires : tie.Need-load-requires
+load-requires c κs = search needs
+
+cast-t9 : tie.Need-cast-t9
+cast-t9 c =
+    omega (
+      arith,
+      fits (c .before .before .before .before .args .r .now) _ (c .load .ensures)
+          (λ k. omega (arith, c .before .before .shared-slice-known2 .given k)),
+    )
+
+returns : tie.Need-returns
+unfolding commandOf
+returns c = rw (c .load .ensures, loaded (drop 4 (c .before .before .before .before .args .r .now)) 4 (omega arith))
+
+pub completion-spec : {M : Type 1} → statement M
+completion-spec =
+    tie.close
+    (tie.spec
+    shared-slice-read-t3
+    sub-load
+    part-load-start
+    part-load-end
+    load-requires
+    cast-t9
+    returns)

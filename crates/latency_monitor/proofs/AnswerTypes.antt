@@ -1,0 +1,61 @@
+-- The answers and outcomes of the calls, and the answers as numbers, as the walks take them.
+use mathlib.Core.Path.{refl}
+use mir.Syntax.{w8}
+use denote.Plain.{UInt}
+use Rattle.monitor.proofs.answers.Answer as N
+use Rattle.monitor.proofs.answers.Answer.Laws as N′
+use Rattle.monitor.proofs.answers.CompletionAnswer as CN
+use Rattle.monitor.proofs.answers.CompletionAnswer.Laws as CN′
+use Rattle.monitor.proofs.answers.ElapsedAnswer as EN
+use Rattle.monitor.proofs.answers.ElapsedAnswer.Laws as EN′
+use Rattle.monitor.proofs.record.Outcome as O
+use Rattle.monitor.proofs.record.Outcome.Laws as O′
+use Rattle.monitor.proofs.record.CompletionOutcome as CO
+use Rattle.monitor.proofs.record.CompletionOutcome.Laws as CO′
+use Rattle.monitor.proofs.record.ElapsedOutcome as EO
+use Rattle.monitor.proofs.record.ElapsedOutcome.Laws as EO′
+use Rattle.latency_monitor.proofs.answers.PlainCompletionAnswer as CR
+use Rattle.latency_monitor.proofs.answers.PlainCompletionAnswer.Laws as CR′
+use Rattle.latency_monitor.proofs.answers.PlainElapsedAnswer as ER
+use Rattle.latency_monitor.proofs.answers.PlainElapsedAnswer.Laws as ER′
+use Rattle.latency_monitor.proofs.PlainData.{Plain, plain-uint, plain-struct, plain-enum, three-variants, Way, by-case}
+use Rattle.latency_monitor.proofs.PlainData.{Outcome, outcome-struct}
+
+abbrev pub answer : Plain N.the-row
+answer = plain-enum N.the-type N′.the-laws tt N′.the-plain N′.the-copy
+
+abbrev pub completion-answer : Plain CN.the-row
+completion-answer = plain-enum CN.the-type CN′.the-laws tt CN′.the-plain CN′.the-copy
+
+abbrev pub elapsed-answer : Plain EN.the-row
+elapsed-answer = plain-enum EN.the-type EN′.the-laws tt EN′.the-plain EN′.the-copy
+
+abbrev pub completion-cases : Way completion-answer
+completion-cases = by-case (three-variants CN.the-type CN′.the-laws refl)
+
+abbrev pub elapsed-cases : Way elapsed-answer
+elapsed-cases = by-case (three-variants EN.the-type EN′.the-laws refl)
+
+abbrev pub outcome : Outcome answer
+outcome =
+    outcome-struct answer O.the-type O′.the-laws (λ o. o .next) (λ o. o .answer) refl (λ o. refl)
+    (λ o each. (each .0, each .1 .0))
+
+abbrev pub completion-outcome : Outcome completion-answer
+completion-outcome =
+    outcome-struct completion-answer CO.the-type CO′.the-laws (λ o. o .next) (λ o. o .answer) refl (λ o. refl)
+    (λ o each. (each .0, each .1 .0))
+
+abbrev pub elapsed-outcome : Outcome elapsed-answer
+elapsed-outcome =
+    outcome-struct elapsed-answer EO.the-type EO′.the-laws (λ o. o .next) (λ o. o .answer) refl (λ o. refl)
+    (λ o each. (each .0, each .1 .0))
+
+abbrev pub refusal : Plain (UInt w8)
+refusal = plain-uint w8
+
+abbrev pub plain-completion-answer : Plain CR.the-row
+plain-completion-answer = plain-struct CR.the-type CR′.the-laws CR′.the-plain CR′.the-copy
+
+abbrev pub plain-elapsed-answer : Plain ER.the-row
+plain-elapsed-answer = plain-struct ER.the-type ER′.the-laws ER′.the-plain ER′.the-copy

@@ -1,0 +1,33 @@
+-- `answers::completion`: each case of the answer gives the numbers that it says.
+use mathlib.Core.Path.{sym, ap}
+use borrow.Author.Needs.{needs}
+use Rattle.monitor.specs.Answers.{saysCompletion}
+use Rattle.monitor.specs.declared.answers.CompletionAnswer.{CompletionAnswer}
+use Rattle.latency_monitor.specs.declared.answers.PlainCompletionAnswer.{PlainCompletionAnswer}
+use Rattle.latency_monitor.specs.Answers.{asCompletion}
+use Rattle.latency_monitor.proofs.answers.completion.Statement.{statement}
+use Rattle.latency_monitor.proofs.answers.completion.Tie as tie
+
+enum-told : tie.Need-enum-told
+enum-told c = search needs
+
+enum-known-a : tie.Need-enum-known-a
+enum-known-a c = search needs
+
+enum-known-a-2 : tie.Need-enum-known-a-2
+enum-known-a-2 c = search needs
+
+abbrev numbers : CompletionAnswer → PlainCompletionAnswer
+numbers a = asCompletion (saysCompletion a)
+
+returns : tie.Need-returns
+returns c = sym (ap numbers (c .enum-told .given .1))
+
+returns-2 : tie.Need-returns-2
+returns-2 c = sym (ap numbers (c .before .a .given .1))
+
+returns-3 : tie.Need-returns-3
+returns-3 c = sym (ap numbers (c .before .a2 .given .1))
+
+pub completion-spec : {M : Type 1} → statement M
+completion-spec = tie.close (tie.spec enum-told enum-known-a enum-known-a-2 returns returns-2 returns-3)

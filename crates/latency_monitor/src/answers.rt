@@ -1,0 +1,85 @@
+// What the calls answer, as C reads it: enums do not cross the boundary.
+ghost use mathlib.Core.Path.{_≡_};
+ghost use Rattle.monitor.specs.Answers.{saysAnswer, saysCompletion, saysElapsed};
+ghost use Rattle.latency_monitor.specs.Answers.{asRefusal, asCompletion, asElapsed};
+use monitor::Answer;
+use monitor::CompletionAnswer;
+use monitor::ElapsedAnswer;
+
+// The refusal number of an accepted call.
+const ACCEPTED: u8 = 0;
+
+// The answer to a completion.
+#[repr(C)]
+pub struct PlainCompletionAnswer {
+    // The counter's number, 0 if not counted.
+    pub counter: u16,
+    pub counted: bool,
+    // Whether the latency stamp was loaded.
+    pub loaded: bool,
+    // Whether a debug log was taken.
+    pub debug: bool,
+}
+
+// The answer to elapsed time.
+#[repr(C)]
+pub struct PlainElapsedAnswer {
+    // Document 01's number, 0 if accepted.
+    pub refusal: u8,
+    // Whether the active window ended, and is the static one now.
+    pub ended: bool,
+}
+
+// The number that turned a call away, 0 if accepted.
+pub(crate) fn refusal(a: Answer) -> u8
+    ensures { λ r. ⌜ r ≡ asRefusal (saysAnswer a) ⌝ }
+{
+    match a {
+        Answer::Refused(n) => n,
+        Answer::Done => ACCEPTED,
+    }
+}
+
+pub(crate) fn completion(a: CompletionAnswer) -> PlainCompletionAnswer
+    ensures { λ r. ⌜ r ≡ asCompletion (saysCompletion a) ⌝ }
+{
+    match a {
+        CompletionAnswer::NotCounted => PlainCompletionAnswer {
+            counter: 0,
+            counted: false,
+            loaded: false,
+            debug: false,
+        },
+        CompletionAnswer::Counted { counter, debug } => PlainCompletionAnswer {
+            counter,
+            counted: true,
+            loaded: false,
+            debug,
+        },
+        CompletionAnswer::Loaded { counter, debug } => PlainCompletionAnswer {
+            counter,
+            counted: true,
+            loaded: true,
+            debug,
+        },
+    }
+}
+
+pub(crate) fn elapsed(a: ElapsedAnswer) -> PlainElapsedAnswer
+    ensures { λ r. ⌜ r ≡ asElapsed (saysElapsed a) ⌝ }
+{
+    match a {
+        ElapsedAnswer::Refused(n) => PlainElapsedAnswer {
+            refusal: n,
+            ended: false,
+        },
+        ElapsedAnswer::Active => PlainElapsedAnswer {
+            refusal: ACCEPTED,
+            ended: false,
+        },
+        ElapsedAnswer::Ended => PlainElapsedAnswer {
+            refusal: ACCEPTED,
+            ended: true,
+        },
+    }
+}

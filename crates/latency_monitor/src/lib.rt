@@ -1,0 +1,122 @@
+// The firmware's boundary: the record is lent for each call, in C's calling convention. Each function calls the
+// monitor's rule on the record, stores the record that comes back, and gives the answer as numbers;
+// include/latency_monitor.h declares them. `page` and `settings_back` only read the record.
+mod answers;
+
+pub use answers::PlainCompletionAnswer;
+pub use answers::PlainElapsedAnswer;
+ghost use mathlib.Core.Path.{_≡_};
+ghost use lib.ListN.{length};
+ghost use Rattle.monitor.specs.Answers.{done};
+ghost use Rattle.monitor.specs.Record.{newMonitor, afterSettings, settingsAnswer, afterCompletion, completionAnswer};
+ghost use Rattle.monitor.specs.Record.{afterElapsed, elapsedAnswer, afterClock, clockAnswer, afterPowerUp};
+ghost use Rattle.monitor.specs.Report.{afterPage, pageAnswer, afterSettingsBack, settingsBackAnswer};
+ghost use Rattle.latency_monitor.specs.Answers.{asRefusal, asCompletion, asElapsed};
+use monitor::Command;
+use monitor::CompletionAnswer;
+use monitor::ElapsedAnswer;
+use monitor::Monitor;
+
+// A new monitor.
+#[no_mangle]
+pub extern "C" fn latency_monitor_new(m: &mut Monitor)
+    ensures { λ _. ⌜ now (m .exit) ≡ newMonitor ⌝ }
+{
+    *m = Monitor::new();
+}
+
+// Settings, as 4,096 bytes.
+#[no_mangle]
+pub extern "C" fn latency_monitor_configure(m: &mut Monitor, s: &[u8]) -> u8
+    ensures next { λ _. ⌜ now (m .exit) ≡ afterSettings (now (m .entry)) (now (s .entry)) ⌝ }
+    ensures answer { λ r. ⌜ r ≡ asRefusal (settingsAnswer (now (s .entry))) ⌝ }
+{
+    let o = Monitor::configure(*m, s);
+    *m = o.next;
+    answers::refusal(o.answer)
+}
+
+// A completed command. The record is stored in each arm, so that the compiled ways stay apart and write what they
+// change.
+#[no_mangle]
+pub extern "C" fn latency_monitor_completion(m: &mut Monitor, c: Command) -> PlainCompletionAnswer
+    ensures next { λ _. ⌜ now (m .exit) ≡ afterCompletion (now (m .entry)) c ⌝ }
+    ensures answer { λ r. ⌜ r ≡ asCompletion (completionAnswer (now (m .entry)) c) ⌝ }
+{
+    let o = Monitor::completion(*m, c);
+    let answer = o.answer;
+    match answer {
+        CompletionAnswer::NotCounted => {
+            *m = o.next;
+        }
+        CompletionAnswer::Counted { .. } => {
+            *m = o.next;
+        }
+        CompletionAnswer::Loaded { .. } => {
+            *m = o.next;
+        }
+    }
+    answers::completion(answer)
+}
+
+// Elapsed time, in ms; stored in each arm, as above.
+#[no_mangle]
+pub extern "C" fn latency_monitor_elapsed(m: &mut Monitor, ms: u32) -> PlainElapsedAnswer
+    ensures next { λ _. ⌜ now (m .exit) ≡ afterElapsed (now (m .entry)) ms ⌝ }
+    ensures answer { λ r. ⌜ r ≡ asElapsed (elapsedAnswer (now (m .entry)) ms) ⌝ }
+{
+    let o = Monitor::elapsed(*m, ms);
+    let answer = o.answer;
+    match answer {
+        ElapsedAnswer::Refused(_) => {
+            *m = o.next;
+        }
+        ElapsedAnswer::Active => {
+            *m = o.next;
+        }
+        ElapsedAnswer::Ended => {
+            *m = o.next;
+        }
+    }
+    answers::elapsed(answer)
+}
+
+// The host sets the clock, in ms.
+#[no_mangle]
+pub extern "C" fn latency_monitor_set_clock(m: &mut Monitor, value: u64) -> u8
+    ensures next { λ _. ⌜ now (m .exit) ≡ afterClock (now (m .entry)) value ⌝ }
+    ensures answer { λ r. ⌜ r ≡ asRefusal (clockAnswer value) ⌝ }
+{
+    let o = Monitor::set_clock(*m, value);
+    *m = o.next;
+    answers::refusal(o.answer)
+}
+
+// Power-up.
+#[no_mangle]
+pub extern "C" fn latency_monitor_power_up(m: &mut Monitor) -> u8
+    ensures next { λ _. ⌜ now (m .exit) ≡ afterPowerUp (now (m .entry)) ⌝ }
+    ensures answer { λ r. ⌜ r ≡ asRefusal done ⌝ }
+{
+    let o = Monitor::power_up(*m);
+    *m = o.next;
+    answers::refusal(o.answer)
+}
+
+// Log page C3h, into a buffer of 512 bytes.
+#[no_mangle]
+pub extern "C" fn latency_monitor_page(m: &Monitor, page: &mut [u8]) -> u8
+    ensures bytes { λ _. ⌜ now (page .exit) ≡ afterPage (now (m .entry)) (now (page .entry)) ⌝ }
+    ensures answer { λ r. ⌜ r ≡ asRefusal (pageAnswer (length (now (page .entry)))) ⌝ }
+{
+    answers::refusal(Monitor::page(*m, page))
+}
+
+// The settings in force, into a buffer of 4,096 bytes.
+#[no_mangle]
+pub extern "C" fn latency_monitor_settings_back(m: &Monitor, s: &mut [u8]) -> u8
+    ensures bytes { λ _. ⌜ now (s .exit) ≡ afterSettingsBack (now (m .entry)) (now (s .entry)) ⌝ }
+    ensures answer { λ r. ⌜ r ≡ asRefusal (settingsBackAnswer (length (now (s .entry)))) ⌝ }
+{
+    answers::refusal(Monitor::settings_back(*m, s))
+}

@@ -1,0 +1,25 @@
+-- `Command::kind`: one return for each opcode of the definition, and one for the rest.
+use borrow.Author.Tests.{ne-eqb}
+use Rattle.monitor.specs.Commands.{kindOf}
+use Rattle.monitor.proofs.commands.Command.kind.Statement.{statement}
+use Rattle.monitor.proofs.commands.Command.kind.Tie as tie
+
+returns : tie.Need-returns
+unfolding kindOf
+returns c = rw (c .match .keys1)
+
+returns-2 : tie.Need-returns-2
+unfolding kindOf
+returns-2 c = rw (c .match .keys2)
+
+returns-3 : tie.Need-returns-3
+unfolding kindOf
+returns-3 c = rw (c .match .keys3)
+
+returns-4 : tie.Need-returns-4
+unfolding kindOf
+returns-4 c =
+    simp (ne-eqb _ _ (c .match .rest .0 .0 .1), ne-eqb _ _ (c .match .rest .0 .1), ne-eqb _ _ (c .match .rest .1))
+
+pub kind-spec : {M : Type 1} → statement M
+kind-spec = tie.close (tie.spec returns returns-2 returns-3 returns-4)
