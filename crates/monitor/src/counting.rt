@@ -93,17 +93,17 @@ pub(crate) fn logged(
     n: usize,
     clock: u64,
     ms: u16,
-    host_set: bool,
+    units: bool,
 ) -> DebugLog
     requires { ⌜ n < 12 ⌝ }
-    ensures { λ r. ⌜ r ≡ cond takes (debugLog n clock ms host_set) held ⌝ }
+    ensures { λ r. ⌜ r ≡ cond takes (debugLog n clock ms units) held ⌝ }
 {
     if takes {
         DebugLog {
             stamp: clock,
             latency: ms,
             source: one_bit(n),
-            units: host_set,
+            units,
         }
     } else {
         DebugLog {

@@ -29,5 +29,5 @@ latency-monitor-completion-spec 𝓤 H 𝓜 𝓖 𝓡 =
     completion-cases (one _ (passed command)) (λ _ m a. afterCompletion m (a .0)) (λ _ m a. completionAnswer m (a .0))
     𝓤 H 𝓜 𝓖 𝓡 code.env #self (code.unfolded 𝓤 H 𝓜 𝓡)
     code.calls-monitor·record·Monitor·completion (rule.met 𝓤 H 𝓜 𝓖 𝓡)
-    code.calls-latency_monitor·answers·completion (numbers.met 𝓤 H 𝓜 𝓖 𝓡)
+    code.calls-latency-monitor·answers·completion (numbers.met 𝓤 H 𝓜 𝓖 𝓡)
     (f.clauses 𝓤 H (𝓖 .A) (𝓜 .mem) (𝓡 .run)) (λ κs a g r e next answer. two 𝓤 next answer)

@@ -23,5 +23,5 @@ latency-monitor-configure-spec 𝓤 H 𝓜 𝓖 𝓡 =
     (λ _ m a. afterSettings m (a .0 .now)) (λ _ _ a. settingsAnswer (a .0 .now))
     𝓤 H 𝓜 𝓖 𝓡 code.env #self (code.unfolded 𝓤 H 𝓜 𝓡)
     code.calls-monitor·record·Monitor·configure (rule.met 𝓤 H 𝓜 𝓖 𝓡)
-    code.calls-latency_monitor·answers·refusal (numbers.met 𝓤 H 𝓜 𝓖 𝓡)
+    code.calls-latency-monitor·answers·refusal (numbers.met 𝓤 H 𝓜 𝓖 𝓡)
     (f.clauses 𝓤 H (𝓖 .A) (𝓜 .mem) (𝓡 .run)) (λ κs a g r e next answer. two 𝓤 next answer)

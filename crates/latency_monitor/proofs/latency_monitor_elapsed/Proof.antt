@@ -25,5 +25,5 @@ latency-monitor-elapsed-spec 𝓤 H 𝓜 𝓖 𝓡 =
     elapsed-cases (one _ (passed (plain-uint w32))) (λ _ m a. afterElapsed m (a .0)) (λ _ m a. elapsedAnswer m (a .0))
     𝓤 H 𝓜 𝓖 𝓡 code.env #self (code.unfolded 𝓤 H 𝓜 𝓡)
     code.calls-monitor·record·Monitor·elapsed (rule.met 𝓤 H 𝓜 𝓖 𝓡)
-    code.calls-latency_monitor·answers·elapsed (numbers.met 𝓤 H 𝓜 𝓖 𝓡)
+    code.calls-latency-monitor·answers·elapsed (numbers.met 𝓤 H 𝓜 𝓖 𝓡)
     (f.clauses 𝓤 H (𝓖 .A) (𝓜 .mem) (𝓡 .run)) (λ κs a g r e next answer. two 𝓤 next answer)

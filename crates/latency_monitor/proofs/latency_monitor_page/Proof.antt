@@ -22,5 +22,5 @@ latency-monitor-page-spec 𝓤 H 𝓜 𝓖 𝓡 =
     (λ m bytes written. (h : History) → m ≡ play h → written ≡ pageByFacts h bytes)
     𝓤 H 𝓜 𝓖 𝓡 code.env #self (code.unfolded 𝓤 H 𝓜 𝓡)
     code.calls-monitor·record·Monitor·page (rule.met 𝓤 H 𝓜 𝓖 𝓡)
-    code.calls-latency_monitor·answers·refusal (numbers.met 𝓤 H 𝓜 𝓖 𝓡)
+    code.calls-latency-monitor·answers·refusal (numbers.met 𝓤 H 𝓜 𝓖 𝓡)
     (f.clauses 𝓤 H (𝓖 .A) (𝓜 .mem) (𝓡 .run)) (λ κs a g r e bytes answer. two 𝓤 bytes answer)

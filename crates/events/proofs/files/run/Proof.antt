@@ -36,8 +36,8 @@ part-r-end c = search needs
 is-completion-requires : tie.Need-is-completion-requires Inv-loop μ-loop
 is-completion-requires c κs = sixteen _ (c .before .before .loop .i) (search needs)
 
-completion-requires : tie.Need-completion-requires Inv-loop μ-loop
-completion-requires c κs = sixteen _ (c .before .before .before .before .loop .i) (search needs)
+command-requires : tie.Need-command-requires Inv-loop μ-loop
+command-requires c κs = sixteen _ (c .before .before .before .before .loop .i) (search needs)
 
 counter-requires : tie.Need-counter-requires Inv-loop μ-loop
 counter-requires c κs = search needs
@@ -55,14 +55,14 @@ loop-again c =
     let made =
     passed-over _ _ _ _ (sixteen _ (l .i) (search needs))
     (sym (r .before .before .is-completion .ensures) ∙ r .before .if1 .taken)
-    (r .completion .ensures)
+    (r .command .ensures)
     (c .before .counter .ensures)
     (c .if2 .taken)
     in
     went-on _ _ _ _ (l .i) _ (l .inv) (the-record _ (l .i)) (made .0) (made .1) (search needs)
 
-completion-requires-2 : tie.Need-completion-requires-2 Inv-loop μ-loop
-completion-requires-2 c κs = search needs
+completion-requires : tie.Need-completion-requires Inv-loop μ-loop
+completion-requires c κs = search needs
 
 add-i-2 : tie.Need-add-i-2 Inv-loop μ-loop
 add-i-2 c = search needs
@@ -78,7 +78,7 @@ loop-again-2 c =
     completion-call _ (sixteen _ (l .i) (search needs))
     (sym (r .before .before .is-completion .ensures) ∙ r .before .if1 .taken)
     in
-    let made = stands-for _ _ _ _ _ call (rw (r .completion .ensures) at (c .before .completion2 .ensures .0)) refl in
+    let made = stands-for _ _ _ _ _ call (rw (r .command .ensures) at (c .before .completion .ensures .0)) refl in
     went-on _ _ _ _ (l .i) _ (l .inv) (the-record _ (l .i)) (made .0) (made .1) (search needs)
 
 is-elapsed-requires : tie.Need-is-elapsed-requires Inv-loop μ-loop
@@ -181,12 +181,12 @@ run-spec =
     part-r-start
     part-r-end
     is-completion-requires
-    completion-requires
+    command-requires
     counter-requires
     add-i
     loop-less
     loop-again
-    completion-requires-2
+    completion-requires
     add-i-2
     loop-less-2
     loop-again-2

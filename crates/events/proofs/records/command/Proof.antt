@@ -34,8 +34,8 @@ returns : tie.Need-returns
 unfolding commandOf
 returns c = rw (c .load .ensures, loaded (drop 4 (c .before .before .before .before .args .r .now)) 4 (omega arith))
 
-pub completion-spec : {M : Type 1} → statement M
-completion-spec =
+pub command-spec : {M : Type 1} → statement M
+command-spec =
     tie.close
     (tie.spec
     shared-slice-read-t3
