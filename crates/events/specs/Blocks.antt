@@ -6,9 +6,9 @@ use Prim.Native.Nat.{ℕ, zero, suc, _+_, _*_, _/_, _%_, _^_}
 use lib.ListN.{length, take}
 use Rattle.monitor.specs.History.{found, play}
 use Rattle.monitor.specs.Report.{pageOf}
-use Rattle.events.specs.Lines.{refusedLine}
+use Rattle.text.specs.Lines.{refusedLine}
 use Rattle.events.specs.Records.{recordAt, wholeRecords, historyOf, recordRefusal, endRefusal}
-use Rattle.events.specs.Text.{textOf}
+use Rattle.text.specs.Pages.{textOf}
 
 -- the line of record i, if it is refused: its number, and the refusal. The bytes' first record has the number `first`;
 -- numbers have 64 bits, more than any file needs.

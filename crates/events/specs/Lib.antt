@@ -1,5 +1,3 @@
 pub mod Records
-pub mod Text
-pub mod Lines
 pub mod Blocks
 pub mod Claims

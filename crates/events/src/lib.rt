@@ -1,13 +1,14 @@
-// Event files: records of 16 bytes, the calls that they stand for, what these make of a monitor, and the page's text.
+// Event files: records of 16 bytes, the calls that they stand for, and what these make of a monitor.
+mod blocks;
 mod files;
 mod records;
-mod text;
 
+pub use blocks::Block;
+pub use blocks::replay_block;
+pub use blocks::end_line;
 pub use files::Halt;
 pub use files::Stop;
 pub use files::apply;
 pub use files::left_over;
 pub use files::replay;
 pub use files::run;
-pub use text::Text;
-pub use text::page_text;

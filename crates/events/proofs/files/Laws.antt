@@ -21,11 +21,11 @@ use Rattle.events.specs.Records.{callsBefore, historyOf}
 use Rattle.events.specs.Records.{Refusal, refusalAt, firstRefusedFrom, firstRefused, acceptedRecords}
 
 -- an answer says whether there was a refusal, and which
-not-refused : (o : Option ℕ) → done ≡ unlessRefused o done → o ≡ none
+pub not-refused : (o : Option ℕ) → done ≡ unlessRefused o done → o ≡ none
 not-refused none e = refl
 not-refused (some n) e = cc
 
-refused-by : (o : Option ℕ) (n : ℕ) → refused n ≡ unlessRefused o done → o ≡ some n
+pub refused-by : (o : Option ℕ) (n : ℕ) → refused n ≡ unlessRefused o done → o ≡ some n
 refused-by none n e = cc
 refused-by (some k) n e = cc
 
@@ -217,7 +217,7 @@ found-at s (suc n) i p e = by (recordRefusal (recordAt s i)) refl e (found-at s 
         (omega arith, rw (index-is, number-is) eo)
 
 -- the records of a file's rest are the file's own
-rest-record : (s : List ℕ) (i k : ℕ) → recordAt (drop (16 * i) s) k ≡ recordAt s (i + k)
+pub rest-record : (s : List ℕ) (i k : ℕ) → recordAt (drop (16 * i) s) k ≡ recordAt s (i + k)
 rest-record s i k =
     let further : 16 * i + 16 * k ≡ 16 * (i + k) = omega arith in
     rw (drop-drop (16 * k) (16 * i) s, further)

@@ -1,0 +1,39 @@
+-- Refused lines, as the programs print them (document 01, The page program).
+use mathlib.Core.Bool.{cond}
+use mathlib.Core.List.{List, [], _∷_, _++_}
+use Prim.Native.Nat.{ℕ, zero, suc, _+_, _/_, _%_}
+use lib.Dec.{ltb}
+use lib.ListN.{length}
+use Rattle.text.specs.Stored.{padded}
+use Rattle.text.specs.declared.lines.Line.{Line}
+
+-- the last k decimal digits of n as ASCII bytes, the highest first
+unfoldable pub digits : (k n : ℕ) → List ℕ
+digits zero n = []
+digits (suc k) n = digits k (n / 10) ++ ((48 + n % 10) ∷ [])
+
+-- how many digits n has: one, and at most so many more
+unfoldable pub widthWithin : (more n : ℕ) → ℕ
+widthWithin zero n = 1
+widthWithin (suc more) n = cond (ltb n 10) 1 (suc (widthWithin more (n / 10)))
+
+-- a number in decimal, with no zero in front; one of 64 bits has at most 20 digits
+unfoldable pub decimal : ℕ → List ℕ
+decimal n = digits (widthWithin 19 n) n
+
+-- each number behind a space
+unfoldable pub spaced : List ℕ → List ℕ
+spaced [] = []
+spaced (n ∷ numbers) = (32 ∷ decimal n) ++ spaced numbers
+
+-- `refused`
+unfoldable pub refusedWord : List ℕ
+refusedWord = 114 ∷ 101 ∷ 102 ∷ 117 ∷ 115 ∷ 101 ∷ 100 ∷ []
+
+-- the word, the numbers, newline
+unfoldable pub refusedLine : List ℕ → List ℕ
+refusedLine numbers = refusedWord ++ spaced numbers ++ (10 ∷ [])
+
+-- a line in a room of 50 bytes: the word, two numbers of at most 20 digits behind a space each, and the newline
+unfoldable pub asLine : List ℕ → Line
+asLine t = record { bytes = padded 50 t; len = length t }
