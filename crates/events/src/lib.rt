@@ -4,8 +4,8 @@ mod files;
 mod records;
 
 pub use blocks::Block;
-pub use blocks::replay_block;
 pub use blocks::end_line;
+pub use blocks::replay_block;
 pub use files::Halt;
 pub use files::Stop;
 pub use files::apply;

@@ -2,10 +2,10 @@
 use mathlib.Core.List.{List, [], _∷_, _++_, append-assoc}
 use mathlib.Core.Option.{Option, none, some}
 use mathlib.Core.Path.{_≡_, refl, sym, ap, _∙_}
-use Prim.Native.Nat.{ℕ, zero, suc, _+_, _-_, _*_, _%_, _^_, _<_, _≤_}
+use Prim.Native.Nat.{ℕ, zero, suc, _+_, _-_, _*_, _/_, _%_, _^_, _<_, _≤_}
 use native.Mathlib.Nat.{sub-zero}
 use native.Mathlib.Omega.{arith}
-use lib.ListN.{length, take, drop, length-append, length-drop}
+use lib.ListN.{length, take, drop, length-append, length-take, length-drop}
 use lib.Seq.{sets, sets-eq, take-append-seam, drop-drop}
 use borrow.Rule.Slice.PartMut.{putMid}
 use Rattle.endian.proofs.Runs.{run-left}
@@ -14,7 +14,7 @@ use Rattle.monitor.specs.History.{found, orElse}
 use Rattle.text.specs.declared.lines.Line.{Line}
 use Rattle.text.specs.Lines.{refusedLine, asLine}
 use Rattle.text.specs.Stored.{Stored}
-use Rattle.events.specs.Blocks.{recordLine, linesFrom, refusedLines, endLine}
+use Rattle.events.specs.Blocks.{recordLine, linesFrom, refusedLines, withRoom, endLine}
 use Rattle.events.specs.Records.{Refusal, refusalAt, firstRefusedFrom, firstRefused, recordAt, recordRefusal}
 use Rattle.events.specs.Records.{wholeRecords, endRefusal}
 use Rattle.events.proofs.files.Laws.{rest-record, not-refused, refused-by}
@@ -130,8 +130,8 @@ module _ (first : ℕ) (s before : List ℕ) where
       let on : suc (i + p .index) ≡ i + p .index + 1 = omega arith in
       let left : 0 + (wholeRecords s - i) - suc (p .index) ≡ wholeRecords s - (i + p .index + 1) = omega arith in
       let lines :
-        linesFrom first s i (wholeRecords s - i) ≡
-        lineOf first i p ++ linesFrom first s (i + p .index + 1) (wholeRecords s - (i + p .index + 1)) =
+      linesFrom first s i (wholeRecords s - i) ≡
+      lineOf first i p ++ linesFrom first s (i + p .index + 1) (wholeRecords s - (i + p .index + 1)) =
       rw (zero-on, whole, on, left) at (next-line first s i (wholeRecords r) 0 p e)
       in
       record {
@@ -165,6 +165,23 @@ module _ (first : ℕ) (s before : List ℕ) where
         exact = omega (arith, rw lines at (t .exact));
         within = omega (arith, t .within);
       }
+
+-- the records that have room
+pub has-room : (s : List ℕ) (n : ℕ) → 50 * wholeRecords (take (16 * (n / 50)) s) ≤ n
+has-room s n = omega (arith, length-take (16 * (n / 50)) s)
+
+pub in-output :
+    (first : ℕ) (s before after : List ℕ) (took : ℕ) →
+    let part = take (16 * (length before / 50)) s in
+    Stored (refusedLines first part) 0 (50 * wholeRecords part) before after took →
+    Stored (refusedLines first (withRoom s (length before))) 0 (length before) before after took
+unfolding withRoom
+in-output first s before after took t =
+    record {
+      content = t .content;
+      exact = t .exact;
+      within = omega (arith, t .within, has-room s (length before));
+    }
 
 -- the end of the input
 pub some-line :

@@ -1,10 +1,9 @@
+-- `replay_block`: the records that have room are those of a part of the input.
 use borrow.Author.Needs.{needs}
+use Rattle.events.specs.Blocks.{withRoom}
+use Rattle.events.proofs.blocks.Laws.{has-room, in-output}
 use Rattle.events.proofs.blocks.replay_block.Statement.{statement}
 use Rattle.events.proofs.blocks.replay_block.Tie as tie
-use Rattle.events.proofs.blocks.replay_block.Reads as reads
-use Rattle.events.proofs.blocks.replay_block.Lts as lts
-use Rattle.events.proofs.blocks.first_bytes.Reads as first-bytes-reads
-use Rattle.events.proofs.blocks.replay_lines.Reads as replay-lines-reads
 
 mul-first-bytes : tie.Need-mul-first-bytes
 mul-first-bytes c = search needs
@@ -13,13 +12,17 @@ first-bytes-requires : tie.Need-first-bytes-requires
 first-bytes-requires c κs = search needs
 
 replay-lines-requires : tie.Need-replay-lines-requires
-replay-lines-requires c κs = ?
+replay-lines-requires c κs = rw (c .before .first-bytes .ensures) (has-room _ _)
 
 same-length : tie.Need-same-length
 same-length c = search needs
 
 returns : tie.Need-returns
-returns c = ?
+unfolding withRoom
+returns c =
+    let part = c .before .before .before .before .first-bytes in
+    let replayed = rw (part .ensures) at (c .before .before .replay-lines .ensures) in
+    (replayed .0, in-output _ _ _ _ _ (replayed .1))
 
 pub replay-block-spec : {M : Type 1} → statement M
 replay-block-spec =

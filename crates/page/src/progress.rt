@@ -1,0 +1,70 @@
+// What has been read so far, and what is printed of it.
+ghost use mathlib.Core.Path.{_≡_};
+ghost use mathlib.Core.List.{List, [], _++_};
+ghost use Prim.Native.Nat.{ℕ, _+_, _/_, _%_, _≤_, _<_, _^_};
+ghost use lib.ListN.{length};
+ghost use Rattle.text.specs.Lines.{asLine};
+ghost use Rattle.text.specs.Pages.{asText, textOf};
+ghost use Rattle.text.specs.Stored.{Stored};
+ghost use Rattle.monitor.specs.Report.{pageOf};
+ghost use Rattle.events.specs.Blocks.{refusedLines, endLine};
+ghost use Rattle.page.specs.Progress.{SoFar};
+use monitor::Monitor;
+use text::Line;
+use text::Text;
+
+// The monitor that the records so far have left, and the number of the next record.
+pub struct Progress {
+    pub monitor: Monitor,
+    pub next: u64,
+}
+
+// What a block of input leaves, and the bytes of its refused lines.
+pub struct Taken {
+    pub progress: Progress,
+    pub len: usize,
+}
+
+impl Progress {
+    // Nothing has been read.
+    pub fn start() -> Self
+        ensures { λ p. ⌜ SoFar [] p ⌝ }
+    {
+        let monitor = Monitor::new();
+        Progress { monitor, next: 0 }
+    }
+
+    // The next block, with its refused lines.
+    pub fn take(self, s: &[u8], out: &mut [u8]) -> Taken
+        requires { ⌜ (length (now s) ≤ 65536) × (length (now out) ≡ 204800) × (self .next < 2 ^ 60) ⌝ }
+        ensures read { λ r. ⌜ ((t : List ℕ) → length t % 16 ≡ 0 → SoFar t self → SoFar (t ++ now (s .entry)) (r .progress)) ⌝ }
+        ensures next { λ r. ⌜ r .progress .next ≡ self .next + length (now (s .entry)) / 16 ⌝ }
+        ensures lines { λ r. ⌜ Stored (refusedLines (self .next) (now (s .entry))) 0 204800 (now (out .entry)) (now (out .exit)) (r .len) ⌝ }
+    {
+        let next = self.next + (s.len() / 16) as u64;
+        let b = events::replay_block(self.monitor, s, self.next, out);
+        let monitor = b.monitor;
+        let len = b.len;
+        let progress = Progress { monitor, next };
+        Taken { progress, len }
+    }
+
+    // The line of what is left over at the end, in a last block of n bytes.
+    pub fn end_line(self, n: usize) -> Line
+        ensures { λ r. ⌜ r ≡ asLine (endLine (self .next) n) ⌝ }
+        ensures { λ r. ⌜ r .len ≤ length (r .bytes) ⌝ }
+    {
+        events::end_line(self.next, n)
+    }
+
+    // The page, as text.
+    pub fn page_text(self) -> Text
+        ensures { λ r. ⌜ r ≡ asText (textOf (pageOf (self .monitor))) ⌝ }
+        ensures { λ r. ⌜ r .len ≤ length (r .bytes) ⌝ }
+    {
+        let mut page = [0; 512];
+        let m = self.monitor;
+        m.page(&mut page);
+        text::page_text(&page)
+    }
+}
