@@ -9,6 +9,7 @@ const TIMER_THRESHOLD: usize = 0;
 const MODE: usize = 2;
 const TRIGGER: usize = 4;
 const THRESHOLDS: usize = 6;
+const MINIMUM_WINDOW: usize = 10;
 const ENABLED: usize = 11;
 const TIMER: usize = 12;
 const HOST_SET: usize = 14;
@@ -60,7 +61,11 @@ fn page(monitor: &Monitor) -> [u8; PAGE_LENGTH] {
 
 /// What becomes of the monitor's bytes with these stored at a place.
 fn with(place: usize, bytes: &[u8]) -> Result<Monitor, DamagedRecord> {
-    let mut kept = *monitor().as_bytes();
+    changed(&monitor(), place, bytes)
+}
+
+fn changed(monitor: &Monitor, place: usize, bytes: &[u8]) -> Result<Monitor, DamagedRecord> {
+    let mut kept = *monitor.as_bytes();
     kept[place..place + bytes.len()].copy_from_slice(bytes);
     Monitor::restore(&kept)
 }
@@ -128,6 +133,13 @@ fn no_call_leaves_these() {
     ];
     for (what, place, bytes) in cases {
         assert_eq!(with(place, bytes).err(), Some(DamagedRecord), "{what}");
+    }
+}
+
+#[test]
+fn without_a_timer_threshold_no_settings_were_accepted() {
+    for place in [MODE, TRIGGER, THRESHOLDS + 3, MINIMUM_WINDOW, ENABLED] {
+        assert_eq!(changed(&Monitor::new(), place, &[1]).err(), Some(DamagedRecord), "byte {place}");
     }
 }
 
