@@ -14,7 +14,7 @@
  *     cc -std=c11 -I include firmware.c liblatency_monitor.a
  *
  * It asks the firmware for memcpy and memset, and a call takes at most 1,064 bytes of stack beside what those take. It
- * uses SSE2 registers and the red zone, the 128 bytes below the stack pointer, so it is not for code that must not.
+ * uses SSE2 registers and the red zone (128 bytes below the stack pointer), so it is not for code that must do without.
  *
  * Nothing in this header is of x86-64: it compiles where a bool is one byte and a uint64_t is aligned to eight, as on
  * 64-bit and 32-bit Arm and RISC-V, and the record is then laid out alike. The archive for another processor is the

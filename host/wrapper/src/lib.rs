@@ -102,7 +102,7 @@ impl Monitor {
         answers::accepted(unsafe { sys::latency_monitor_set_clock(&mut self.0, ms) })
     }
 
-    /// The drive powered up: the clock is 0, and not the host's. Never turned away.
+    /// The drive powered up: the clock is 0, and not the host's, and all else is kept. Never turned away.
     pub fn power_up(&mut self) -> Result<(), Refusal> {
         // SAFETY: the record is borrowed alone.
         answers::accepted(unsafe { sys::latency_monitor_power_up(&mut self.0) })
@@ -125,7 +125,8 @@ impl Monitor {
         &self.0
     }
 
-    /// The record's bytes. Those between fields mean nothing, and may differ in records whose fields are equal.
+    /// The record's bytes, to be kept for [`restore`](Monitor::restore). Those between fields mean nothing, and may
+    /// differ in records whose fields are equal.
     pub fn as_bytes(&self) -> &[u8; RECORD_LENGTH] {
         // SAFETY: every byte of a record belongs to a field, and any bytes are an array of bytes.
         unsafe { &*(&raw const self.0).cast() }
