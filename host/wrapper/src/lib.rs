@@ -61,8 +61,8 @@ impl Monitor {
         })
     }
 
-    /// The monitor whose [bytes](Monitor::as_bytes) were kept, as over a power cycle, which
-    /// [`power_up`](Monitor::power_up) then tells it of.
+    /// The monitor whose [bytes](Monitor::as_bytes) were kept; after a power cycle, [`power_up`](Monitor::power_up) is
+    /// the next call.
     ///
     /// Bytes that no history of calls leaves are refused: a bool that is neither 0 nor 1; settings that are neither
     /// zero nor accepted; a timer, partial increment or clock beyond its end; a debug log or a counter whose parts
