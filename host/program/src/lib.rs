@@ -60,7 +60,7 @@ pub fn given(file: &[u8]) -> Written {
 /// Holds a run to its output, line by line, and to silence on standard error.
 pub fn prints(what: &str, written: &Written, due: &str) {
     assert_eq!(written.errors, "", "{what}: standard error");
-    for (number, (is, due)) in written.output.lines().zip(due.lines()).enumerate() {
+    for (number, (is, due)) in (1..).zip(written.output.lines().zip(due.lines())) {
         assert_eq!(is, due, "{what}: line {number}");
     }
     assert_eq!(written.output.len(), due.len(), "{what}: the output's length");
