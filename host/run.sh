@@ -1,7 +1,7 @@
 #!/usr/bin/env bash
 # Builds the C library and the page program and tests them as their users see them: the library by its symbols, its
-# header, a C program, the Rust wrapper and the comparison with reference/; the program on files, on input in pieces
-# and on what cannot be read or written. Before that, reference/ by its own tests.
+# header, a C program, the Rust wrapper and the comparison with reference/, which has tests of its own; the program on
+# files, on input in pieces and on what cannot be read or written.
 #   host/run.sh
 # LATENCY_MONITOR_LIB may name the folder of a liblatency_monitor.a, and LATENCY_MONITOR_PAGE a page program, to test in
 # place of the repository's own.
