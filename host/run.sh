@@ -1,8 +1,10 @@
 #!/usr/bin/env bash
-# Builds the C library and tests it as its users see it: symbols, header, a C program, the Rust wrapper, and the
-# comparison with reference/.
+# Builds the C library and the page program and tests them as their users see them: the library by its symbols, its
+# header, a C program, the Rust wrapper and the comparison with reference/, which has tests of its own; the program on
+# files, on input in pieces and on what cannot be read or written.
 #   host/run.sh
-# LATENCY_MONITOR_LIB may name the folder of a liblatency_monitor.a to test in place of the repository's own.
+# LATENCY_MONITOR_LIB may name the folder of a liblatency_monitor.a, and LATENCY_MONITOR_PAGE a page program, to test in
+# place of the repository's own.
 set -euo pipefail
 top=$(cd "$(dirname "$0")/.." && pwd)
 export CARGO_TARGET_DIR=$top/target/host
@@ -10,10 +12,13 @@ mkdir -p "$CARGO_TARGET_DIR"
 
 if [ -z "${LATENCY_MONITOR_LIB:-}" ]; then
     (cd "$top" && rt staticlib latency_monitor)
-    LATENCY_MONITOR_LIB=$top/target/staticlib
 fi
-LATENCY_MONITOR_LIB=$(cd "$LATENCY_MONITOR_LIB" && pwd)
-export LATENCY_MONITOR_LIB
+if [ -z "${LATENCY_MONITOR_PAGE:-}" ]; then
+    (cd "$top" && rt check page)
+fi
+LATENCY_MONITOR_LIB=$(realpath "${LATENCY_MONITOR_LIB:-$top/target/staticlib}")
+LATENCY_MONITOR_PAGE=$(realpath "${LATENCY_MONITOR_PAGE:-$top/target/bin/page}")
+export LATENCY_MONITOR_LIB LATENCY_MONITOR_PAGE
 archive=$LATENCY_MONITOR_LIB/liblatency_monitor.a
 
 # none WHAT: fails if there are lines to read.
@@ -26,23 +31,38 @@ none() {
     fi
 }
 
+# in_cargo test|run WORDS..: with the versions of the lock file, and without a network.
+in_cargo() {
+    cargo "$1" --release --quiet --locked --offline "${@:2}"
+}
+
 echo "host: symbols and sections"
 nm -P --extern-only --defined-only "$archive" |
     awk '!/:$/ && $1 !~ /^latency_monitor_/' | none "a global name without the prefix"
 nm -P --undefined-only "$archive" |
-    awk '!/:$/ && $1 !~ /^mem(cpy|move|set)$/' | none "a name that the library does not define"
+    awk '!/:$/ && $1 !~ /^mem(cpy|set)$/' | none "a name that the header does not ask for"
 objdump --section-headers --wide "$archive" |
     awk '/ALLOC/ && !/READONLY/ && $3 !~ /^0+$/' | none "writable data, which is state between calls"
 
 echo "host: header and example"
 checks=(-Wall -Wextra -Werror -pedantic -I "$top/include")
-g++ -std=c++17 "${checks[@]}" -fsyntax-only -x c++ "$top/include/latency_monitor.h"
+header=$top/include/latency_monitor.h
+g++ -std=c++11 "${checks[@]}" -fsyntax-only -x c++ "$header"
+g++ -std=c++17 "${checks[@]}" -fsyntax-only -x c++ "$header"
+# 32 bits, with 64-bit numbers aligned as on Arm and RISC-V.
+gcc -std=c11 "${checks[@]}" -fsyntax-only -m32 -malign-double -ffreestanding -x c "$header"
 gcc -std=c11 "${checks[@]}" -O2 -o "$CARGO_TARGET_DIR/example" "$top/host/c/example.c" "$archive"
 "$CARGO_TARGET_DIR/example" | cmp - "$top/crates/page/stdout"
 
+echo "host: the reference"
+in_cargo test --manifest-path "$top/reference/Cargo.toml"
+
 echo "host: wrapper and comparison with the reference"
 cd "$top/host"
-cargo test --release --quiet --locked --offline --package latency_monitor
-cargo run --release --quiet --locked --offline --package differential
+in_cargo test --package latency_monitor
+in_cargo run --package differential
+
+echo "host: page program"
+in_cargo test --package program
 
 echo "host: all passed"

@@ -1,13 +1,24 @@
 /*
  * The latency monitor: a drive's slow commands in latency buckets, and log page C3h of the OCP Datacenter NVMe SSD
- * Specification 2.5.
+ * Specification 2.5. For C11 and C++11.
  *
  * Firmware keeps one record for each drive and lends it for each call. There is no allocation and no state but the
- * record, so calls on distinct records may run at the same time. Calls on one record must not, and no two pointers of
- * a call may overlap.
+ * record, so calls on distinct records may run at the same time. Calls on one record must not, those of interrupt
+ * handlers included, unless both take it as const. No two pointers of a call may overlap.
  *
  * A call that is turned away answers with its refusal number and leaves record and buffer as they were. Any number may
  * be passed, and a buffer of any length, with its own length beside it. No pointer may be null.
+ *
+ * The archive runs on x86-64, with the calling convention of System V:
+ *
+ *     cc -std=c11 -I include firmware.c liblatency_monitor.a
+ *
+ * It asks the firmware for memcpy and memset, and a call takes at most 1,064 bytes of stack beside what those take. It
+ * uses SSE2 registers and the red zone (128 bytes below the stack pointer), so it is not for code that must do without.
+ *
+ * Nothing in this header is of x86-64: it compiles where a bool is one byte and a uint64_t is aligned to eight, as on
+ * 64-bit and 32-bit Arm and RISC-V, and the record is then laid out alike. The archive for another processor is the
+ * toolchain's to make.
  */
 #ifndef LATENCY_MONITOR_H
 #define LATENCY_MONITOR_H
@@ -30,9 +41,21 @@ extern "C" {
 /* A latency stamp that is not set. */
 #define LATENCY_MONITOR_UNSET UINT64_C(0xffffffffffffffff)
 
-/* Lengths, in bytes. */
+/* Lengths, in bytes. Fields of settings and page have the lowest byte first, on every processor. */
 #define LATENCY_MONITOR_SETTINGS_LENGTH 4096
 #define LATENCY_MONITOR_PAGE_LENGTH 512
+
+/* Where settings have their fields; every byte from 13 on is zero. */
+#define LATENCY_MONITOR_SETTINGS_TIMER_THRESHOLD 0 /* two bytes, in increments of five minutes */
+#define LATENCY_MONITOR_SETTINGS_THRESHOLDS 2      /* A to D: byte v means 5 x (v + 1) ms */
+#define LATENCY_MONITOR_SETTINGS_MODE 6            /* two bytes, bit n: counter n in mode largest */
+#define LATENCY_MONITOR_SETTINGS_MINIMUM_WINDOW 8  /* in units of 100 ms; 0 means none */
+#define LATENCY_MONITOR_SETTINGS_TRIGGER 9         /* two bytes, bit n: counter n triggers a debug log */
+#define LATENCY_MONITOR_SETTINGS_DISCARD 11        /* 1 discards the debug log */
+#define LATENCY_MONITOR_SETTINGS_ENABLE 12         /* 0 or 1 */
+
+/* Changes when the record does. */
+#define LATENCY_MONITOR_RECORD_VERSION 1
 
 /* Why a call is turned away; the first that applies is the answer. */
 enum latency_monitor_refusal {
@@ -75,8 +98,15 @@ struct latency_monitor_debug_log {
     bool units;
 };
 
-/* The record. Its fields may be read between calls; only the calls change it. The bytes between fields mean nothing,
- * and may differ in records whose fields are equal. */
+/*
+ * The record. Its fields may be read between calls; only the calls change it. The bytes between fields mean nothing,
+ * and may differ in records whose fields are equal.
+ *
+ * Between calls it may be copied byte for byte, and so kept over a power cycle: keep it with
+ * LATENCY_MONITOR_RECORD_VERSION, copy it back if the version is the same, and call latency_monitor_power_up. What is
+ * copied back must be what a call left, so guard it with a checksum: a bool other than 0 or 1 is no content of a
+ * record, and undefined in C.
+ */
 struct latency_monitor {
     struct latency_monitor_settings settings;
     uint16_t timer;   /* Active Bucket Timer, in increments of five minutes */
@@ -111,7 +141,7 @@ struct latency_monitor_elapsed_answer {
 
 /*
  * Makes a record a new monitor's: disabled, settings zero, clock 0, both windows empty. The storage may be zeroed, as
- * static storage is, or hold a record.
+ * static storage is, or hold a record. Zeroed storage is no new monitor itself: its stamps are set, at 0.
  */
 void latency_monitor_new(struct latency_monitor *monitor);
 
@@ -122,13 +152,13 @@ uint8_t latency_monitor_configure(struct latency_monitor *monitor, const uint8_t
 struct latency_monitor_completion_answer latency_monitor_completion(
     struct latency_monitor *monitor, struct latency_monitor_command command);
 
-/* Lets time pass, at most 300,000 ms a call; turned away by 7. */
+/* Lets time pass, at most 300,000 ms a call; turned away by 7. A longer time is to be split. */
 struct latency_monitor_elapsed_answer latency_monitor_elapsed(struct latency_monitor *monitor, uint32_t ms);
 
 /* The host sets the clock, in ms, below 2^48; turned away by 8. */
 uint8_t latency_monitor_set_clock(struct latency_monitor *monitor, uint64_t ms);
 
-/* The drive powered up: the clock is 0, and not the host's. Never turned away. */
+/* The drive powered up: the clock is 0, and not the host's, and all else is kept. Never turned away. */
 uint8_t latency_monitor_power_up(struct latency_monitor *monitor);
 
 /* Writes log page C3h, 512 bytes; turned away by 9. */

@@ -1,4 +1,4 @@
-/* Document 01's example as firmware would play it: prints the page as the page program does. */
+/* Document 01's example as firmware would play it, with a power cycle: prints the page as the page program does. */
 
 #include <stdio.h>
 #include <stdlib.h>
@@ -18,15 +18,13 @@ static void expect(bool holds, const char *what)
 
 static void configure(void)
 {
+    static const uint8_t thresholds[4] = {0, 1, 3, 9};
     static uint8_t settings[LATENCY_MONITOR_SETTINGS_LENGTH];
 
-    settings[0] = 2;  /* timer threshold */
-    settings[2] = 0;  /* A */
-    settings[3] = 1;  /* B */
-    settings[4] = 3;  /* C */
-    settings[5] = 9;  /* D */
-    settings[9] = 1;  /* trigger of counter 0 */
-    settings[12] = 1; /* enable */
+    settings[LATENCY_MONITOR_SETTINGS_TIMER_THRESHOLD] = 2;
+    memcpy(settings + LATENCY_MONITOR_SETTINGS_THRESHOLDS, thresholds, sizeof thresholds);
+    settings[LATENCY_MONITOR_SETTINGS_TRIGGER] = 1; /* of counter 0 */
+    settings[LATENCY_MONITOR_SETTINGS_ENABLE] = 1;
     expect(latency_monitor_configure(&monitor, settings, sizeof settings) == LATENCY_MONITOR_ACCEPTED, "settings");
 }
 
@@ -38,6 +36,23 @@ static void complete_a_read(void)
     expect(answer.counted && answer.counter == 0, "the Read counts in bucket 0");
     expect(answer.loaded, "its latency stamp is loaded");
     expect(answer.debug, "a debug log is taken");
+}
+
+/* The record is kept with its version, and copied back after the power cycle. */
+static void power_cycle(void)
+{
+    static struct {
+        uint32_t version;
+        uint8_t record[sizeof monitor];
+    } kept = {.version = LATENCY_MONITOR_RECORD_VERSION};
+
+    memcpy(kept.record, &monitor, sizeof monitor);
+    memset(&monitor, 0, sizeof monitor);
+
+    expect(kept.version == LATENCY_MONITOR_RECORD_VERSION, "the record's version");
+    memcpy(&monitor, kept.record, sizeof monitor);
+    expect(latency_monitor_power_up(&monitor) == LATENCY_MONITOR_ACCEPTED, "power-up");
+    expect(monitor.clock == 0, "the clock starts anew");
 }
 
 /* 16 bytes a line, without the lines of zeros and without the version and the GUID. */
@@ -65,6 +80,7 @@ int main(void)
     elapsed = latency_monitor_elapsed(&monitor, 1000);
     expect(elapsed.refusal == LATENCY_MONITOR_ACCEPTED && !elapsed.ended, "the active window goes on");
     complete_a_read();
+    power_cycle();
     expect(monitor.active_window.counters[0] == 1, "the record shows the Read");
 
     expect(latency_monitor_page(&monitor, page, sizeof page) == LATENCY_MONITOR_ACCEPTED, "the page");

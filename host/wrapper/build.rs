@@ -10,9 +10,10 @@ fn main() {
     println!("cargo::rerun-if-env-changed={FOLDER}");
     let folder = env::var_os(FOLDER).map_or_else(repositorys, PathBuf::from);
     let archive = folder.join("liblatency_monitor.a");
-    println!("cargo::rerun-if-changed={}", archive.display());
+    let name = archive.display();
+    println!("cargo::rerun-if-changed={name}");
     if !archive.is_file() {
-        println!("cargo::error=no {}: run `rt staticlib latency_monitor`, or name its folder in {FOLDER}", archive.display());
+        println!("cargo::error=no {name}: run `rt staticlib latency_monitor`, or name its folder in {FOLDER}");
         return;
     }
     println!("cargo::rustc-link-search=native={}", folder.display());

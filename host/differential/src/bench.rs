@@ -63,9 +63,11 @@ fn step(monitors: &mut [Monitor], at: usize, history: &[Call], due: Answer, salt
     Ok(())
 }
 
-/// The record, the page and the settings given back show the facts of a history.
+/// The record, the page and the settings given back show the facts of a history, and the record's bytes bring the
+/// monitor back.
 fn look(monitor: &mut Monitor, history: &[Call], facts: &Facts, salt: u8) -> Result<(), String> {
     compare::fields(monitor.record(), history, facts)?;
+    compare::restored(monitor, facts).map_err(|difference| format!("restored: {difference}"))?;
     for call in [Call::Page(PAGE_LENGTH), Call::SettingsBack(SETTINGS_LENGTH)] {
         compare::call(monitor, &call, Answer::Done, facts, salt)
             .map_err(|difference| format!("{}: {difference}", shown(&call)))?;

@@ -1,14 +1,18 @@
 //! One call on the library, held to what the reference says of it.
 
 use std::fmt::Debug;
+use std::ops::Range;
 
-use latency_monitor::{Command, CompletionAnswer, ElapsedAnswer, Monitor, Record, Refusal, Window};
+use latency_monitor::{Command, CompletionAnswer, DamagedRecord, ElapsedAnswer, Monitor, Record, Refusal, Window};
 use reference::answers::Answer;
 use reference::facts::{clock, window_time, Facts, WindowFacts, NO_STAMP};
-use reference::history::{Call, Settings, INCREMENT_MS};
+use reference::history::{Call, Settings, INCREMENT_MS, PAGE_LENGTH};
 use reference::page::page_bytes;
 
 use crate::lent::{difference, Lent};
+
+/// Where the header has the record's bools.
+const BOOLS: [Range<usize>; 5] = [11..12, 14..15, 140..141, 312..324, 496..508];
 
 /// Makes a call, and compares its answer, the buffer that it was lent, and the record if the call must leave it.
 pub fn call(monitor: &mut Monitor, call: &Call, due: Answer, facts: &Facts, salt: u8) -> Result<(), String> {
@@ -77,6 +81,22 @@ fn content(call: &Call, due: Answer, facts: &Facts) -> Option<Vec<u8>> {
         Call::SettingsBack(_) if due == Answer::Done => Some(Settings { discard: 0, ..facts.settings }.to_buffer()),
         _ => None,
     }
+}
+
+/// The record's bytes are a monitor with the same page, and none with a bool that is neither 0 nor 1.
+pub fn restored(monitor: &Monitor, facts: &Facts) -> Result<(), String> {
+    let restored = Monitor::restore(monitor.as_bytes()).map_err(|refusal| refusal.to_string())?;
+    left(monitor.as_bytes(), &restored)?;
+    let mut page = [0; PAGE_LENGTH];
+    same("page", restored.page(&mut page), Ok(()))?;
+    same("page", page, page_bytes(facts))?;
+    for place in BOOLS.into_iter().flatten() {
+        let mut damaged = *monitor.as_bytes();
+        damaged[place] = 2;
+        same("a bool of 2", Monitor::restore(&damaged).err(), Some(DamagedRecord))
+            .map_err(|difference| format!("byte {place}: {difference}"))?;
+    }
+    Ok(())
 }
 
 /// The record's fields, read where the header has them.

@@ -1,13 +1,13 @@
 //! The latency monitor for Rust: a safe wrapper over the C library.
 //!
 //! ```
-//! use latency_monitor::{Command, CompletionAnswer, Monitor, PAGE_LENGTH, SETTINGS_LENGTH};
+//! use latency_monitor::{offsets, Command, CompletionAnswer, Monitor, PAGE_LENGTH, SETTINGS_LENGTH};
 //!
 //! let mut settings = [0; SETTINGS_LENGTH];
-//! settings[0] = 2; // timer threshold
-//! settings[2..6].copy_from_slice(&[0, 1, 3, 9]); // A to D
-//! settings[9] = 1; // trigger of counter 0
-//! settings[12] = 1; // enable
+//! settings[offsets::TIMER_THRESHOLD] = 2;
+//! settings[offsets::THRESHOLDS..][..4].copy_from_slice(&[0, 1, 3, 9]);
+//! settings[offsets::TRIGGER] = 1; // of counter 0
+//! settings[offsets::ENABLE] = 1;
 //!
 //! let mut monitor = Monitor::new();
 //! monitor.configure(&settings)?;
@@ -24,11 +24,14 @@
 #![no_std]
 
 mod answers;
+pub mod offsets;
+mod restore;
 mod sys;
 
 use core::mem::MaybeUninit;
 
 pub use answers::{CompletionAnswer, ElapsedAnswer, Refusal};
+pub use restore::DamagedRecord;
 pub use sys::{Command, DebugLog, Record, Settings, Window, COUNTERS};
 
 /// The length of settings.
@@ -37,6 +40,8 @@ pub const SETTINGS_LENGTH: usize = 4096;
 pub const PAGE_LENGTH: usize = 512;
 /// The length of a record.
 pub const RECORD_LENGTH: usize = size_of::<Record>();
+/// Changes when the record does; to be kept with a record's bytes.
+pub const RECORD_VERSION: u32 = 1;
 /// A latency stamp that is not set.
 pub const UNSET: u64 = u64::MAX;
 
@@ -54,6 +59,17 @@ impl Monitor {
             sys::latency_monitor_new(record.as_mut_ptr());
             record.assume_init()
         })
+    }
+
+    /// The monitor whose [bytes](Monitor::as_bytes) were kept; after a power cycle, [`power_up`](Monitor::power_up) is
+    /// the next call.
+    ///
+    /// Bytes that no history of calls leaves are refused: a bool that is neither 0 nor 1; settings that are neither
+    /// zero nor accepted; a timer, partial increment or clock beyond its end; a debug log or a counter whose parts
+    /// disagree; a load later than the time in the window. Other damage is not seen, and a checksum is for the keeper
+    /// to add. Bytes of another [`RECORD_VERSION`] are not to be restored.
+    pub fn restore(bytes: &[u8; RECORD_LENGTH]) -> Result<Monitor, DamagedRecord> {
+        restore::record(bytes).map(Monitor)
     }
 
     /// Makes the record a new monitor's again.
@@ -74,7 +90,7 @@ impl Monitor {
         unsafe { sys::latency_monitor_completion(&mut self.0, command) }.into()
     }
 
-    /// Lets time pass, at most 300,000 ms.
+    /// Lets time pass, at most 300,000 ms; more is to be split.
     pub fn elapsed(&mut self, ms: u32) -> Result<ElapsedAnswer, Refusal> {
         // SAFETY: the record is borrowed alone.
         unsafe { sys::latency_monitor_elapsed(&mut self.0, ms) }.try_into()
@@ -86,7 +102,7 @@ impl Monitor {
         answers::accepted(unsafe { sys::latency_monitor_set_clock(&mut self.0, ms) })
     }
 
-    /// The drive powered up: the clock is 0, and not the host's. Never turned away.
+    /// The drive powered up: the clock is 0, and not the host's, and all else is kept. Never turned away.
     pub fn power_up(&mut self) -> Result<(), Refusal> {
         // SAFETY: the record is borrowed alone.
         answers::accepted(unsafe { sys::latency_monitor_power_up(&mut self.0) })
@@ -109,7 +125,8 @@ impl Monitor {
         &self.0
     }
 
-    /// The record's bytes. Those between fields mean nothing, and may differ in records whose fields are equal.
+    /// The record's bytes, to be kept for [`restore`](Monitor::restore). Those between fields mean nothing, and may
+    /// differ in records whose fields are equal.
     pub fn as_bytes(&self) -> &[u8; RECORD_LENGTH] {
         // SAFETY: every byte of a record belongs to a field, and any bytes are an array of bytes.
         unsafe { &*(&raw const self.0).cast() }
