@@ -4,11 +4,11 @@ use mathlib.Core.Bool.{Bool, false, not, _||_}
 use mathlib.Core.List.{List, [], _∷_}
 use lib.Dec.{eqb}
 
--- Fields of several bytes have the lowest byte first.
+-- 01, What the product covers: a number of two bytes, the low byte first
 abbrev pub word : ℕ → ℕ → ℕ
 word low high = low + 256 * high
 
--- whether a byte is not zero
+-- whether any of the bytes is other than zero
 unfoldable pub anySet : List ℕ → Bool
 anySet [] = false
 anySet (b ∷ bs) = not (eqb b 0) || anySet bs

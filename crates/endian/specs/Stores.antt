@@ -1,8 +1,8 @@
--- Numbers as bytes, the lowest first.
+-- Numbers as bytes, little-endian (01, What the product covers).
 use Prim.Native.Nat.{ℕ, zero, suc, _+_, _/_, _%_}
 use mathlib.Core.List.{List, [], _∷_, _++_}
 
--- the lowest n bytes of v, the lowest first
+-- the low n bytes of v, little-endian
 unfoldable pub lowFirst : ℕ → ℕ → List ℕ
 lowFirst zero v = []
 lowFirst (suc n) v = v % 256 ∷ lowFirst n (v / 256)

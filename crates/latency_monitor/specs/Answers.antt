@@ -1,11 +1,11 @@
--- The numbers that each answer of document 01 crosses the boundary as.
+-- The calls' answers as the numbers and flags that C gets.
 use mathlib.Core.Bool.{Bool, true, false}
 use Prim.Native.Nat.{ℕ}
 use Rattle.monitor.specs.Answers.{CallAnswer, refused, done, notCounted, counted, ended}
 use Rattle.latency_monitor.specs.declared.answers.PlainCompletionAnswer.{PlainCompletionAnswer}
 use Rattle.latency_monitor.specs.declared.answers.PlainElapsedAnswer.{PlainElapsedAnswer}
 
--- The answer is the number; 0 where the call is accepted.
+-- 01, Where a call is turned away: the refusal number, or 0 if the call was accepted
 abbrev pub asRefusal : CallAnswer → ℕ
 asRefusal (refused n) = n
 asRefusal done = 0
@@ -13,7 +13,7 @@ asRefusal notCounted = 0
 asRefusal (counted n loaded debug) = 0
 asRefusal (ended b) = 0
 
--- whether a window ended
+-- 01, Time and power: whether the active window ended
 abbrev pub asEnded : CallAnswer → Bool
 asEnded (refused n) = false
 asEnded done = false
@@ -25,11 +25,11 @@ asEnded (ended b) = b
 abbrev pub asElapsed : CallAnswer → PlainElapsedAnswer
 asElapsed reply = record { refusal = asRefusal reply; ended = asEnded reply }
 
--- not counted
+-- the answer to a completion that has no counter
 abbrev pub noCounter : PlainCompletionAnswer
 noCounter = record { counter = 0; counted = false; loaded = false; debug = false }
 
--- 'not counted', or the pair with two yes-or-no facts: stamp loaded, debug record taken
+-- 01, A completion: the answer to it
 abbrev pub asCompletion : CallAnswer → PlainCompletionAnswer
 asCompletion (refused n) = noCounter
 asCompletion done = noCounter

@@ -7,11 +7,11 @@ use Rattle.logpage.specs.declared.Settings.{Settings}
 use Rattle.logpage.specs.declared.Window.{Window}
 use Rattle.logpage.specs.declared.DebugLog.{DebugLog}
 
--- a stamp that is unset: FFFFFFFFFFFFFFFFh
+-- 01, The monitor's record: all ones stand for a stamp that is not set
 abbrev pub unset : ℕ
 unset = 0xffff_ffff_ffff_ffff
 
--- the settings of a new monitor
+-- 01, The monitor's record: the settings before any are accepted
 unfoldable pub noSettings : Settings
 noSettings =
     record {
@@ -23,12 +23,12 @@ noSettings =
       enabled = false;
     }
 
--- the window of these arrays
+-- a window of these arrays, by counter number; document 01 calls the latencies shown, and the units clock marks
 abbrev pub windowOf : List ℕ → List ℕ → List ℕ → List Bool → Window
 windowOf counters stamps latencies units =
     record { counters = counters; stamps = stamps; latencies = latencies; units = units }
 
--- An empty window has count 0, stamp unset, shown latency 0 and mark 0.
+-- 01, The monitor's record: a window in which nothing was counted
 unfoldable pub emptyWindow : Window
 emptyWindow =
     record {
@@ -38,6 +38,6 @@ emptyWindow =
       units = replicate 12 false;
     }
 
--- no debug record is held: its stamp is unset
+-- 01, The monitor's record: no debug log is held (document 01: debug record); the unset stamp says so
 unfoldable pub noDebugLog : DebugLog
 noDebugLog = record { stamp = unset; latency = 0; source = 0; units = false }

@@ -1,4 +1,4 @@
--- What a call answers, in document 01's words, and how the code's answers say it.
+-- What document 01 lets a call answer, and which of it each case of the code's enums says.
 use mathlib.Core.Bool.{Bool, true, false}
 use mathlib.Core.Option.{Option, none, some}
 use Prim.Native.Nat.{ℕ}
@@ -10,17 +10,17 @@ use Rattle.monitor.specs.declared.answers.ElapsedAnswer.{ElapsedAnswer}
 use Rattle.monitor.specs.declared.answers.ElapsedAnswer.the-variants as elapsed
 
 pub data CallAnswer : Type 0 where
-  -- The answer is the number
+  -- 01, Where a call is turned away: the refusal number
   refused : ℕ → CallAnswer
-  -- an accepted call with no answer named says 'done'
+  -- 01, Where a call is turned away: accepted, with nothing more to tell
   done : CallAnswer
-  -- 'not counted', or the pair with two yes-or-no facts: stamp loaded, debug record taken
+  -- 01, A completion: no counter; or the counter, whether its stamp was loaded, and whether a debug log was taken
   notCounted : CallAnswer
   counted : ℕ → Bool → Bool → CallAnswer
-  -- whether a window ended
+  -- 01, Time and power: whether the active window ended
   ended : Bool → CallAnswer
 
--- what a call answers that a row may turn away
+-- the refusal if there is one, else the answer of an accepted call
 abbrev pub unlessRefused : Option ℕ → CallAnswer → CallAnswer
 unlessRefused (some n) answer = refused n
 unlessRefused none answer = answer

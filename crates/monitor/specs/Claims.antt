@@ -19,7 +19,7 @@ use Rattle.monitor.specs.Refusals.{elapsedRefusal, pageRefusal, settings
 use Rattle.monitor.specs.Report.{pageOf, settingsOf}
 use Rattle.monitor.specs.Settings.{encoded}
 
--- the time in the running window when a stamp was loaded: the record keeps it for the minimum window
+-- the time in the active window at a stamp's load, which the record keeps for the minimum window
 abbrev pub loadedOf : Option Counted → ℕ
 loadedOf load = found 0 (λ x. enabledTime (x .before) % (300000 * timerThreshold (x .before))) load
 
@@ -42,38 +42,38 @@ recordOf past =
 abbrev pub PlayedAsFacts : Type 0
 PlayedAsFacts = (h : History) → play h ≡ recordOf (pastOf h)
 
--- So, while enabled, a window ends in the very call where elapsed time since settings with enable 1 were last accepted
--- first reaches a positive multiple of threshold × 300,000 ms: where the number of the running window grows.
+-- 01, Time and power, what follows from its rule: elapsed time ends the active window exactly if the active window's
+-- number, which the facts give, is higher after the call than before
 abbrev pub WindowEnds : Type 0
 WindowEnds =
     (h : History) (ms : ℕ) →
     elapsedAnswer (play h) ms ≡
     unlessRefused (elapsedRefusal ms) (ended (ltb (windowAt (pastOf h)) (windowAt (pastOf (elapsed ms ∷ h)))))
 
--- Demands 2 and 3, each page: after any history it is the one that the page table makes of the facts.
+-- Demand 2, the page: after any history it is the page table, filled with the facts
 abbrev pub PageShowsFacts : Type 0
 PageShowsFacts = (h : History) → pageOf (play h) ≡ pageBytes (factsOf (pastOf h))
 
--- Demand 2, the settings given back: they are the ones that the settings table makes of those in force.
+-- Demand 2, the settings given back: they are the settings table, filled with the settings in force
 abbrev pub SettingsShowFacts : Type 0
 SettingsShowFacts = (h : History) → settingsOf (play h) ≡ encoded (inForce (pastOf h))
 
--- Those last accepted come back the same, the discard byte as zero; else all bytes are zero.
+-- the bytes last accepted, with zero for discard; zeros if none were
 unfoldable pub lastAccepted : History → List ℕ
 lastAccepted h = found (replicate 4096 0) (λ s. set s 11 0) (latest settingsIn (pastOf h))
 
 abbrev pub SettingsComeBack : Type 0
 SettingsComeBack = (h : History) → OfBytes h → settingsOf (play h) ≡ lastAccepted h
 
--- two lists of counted completions give a counter the same count, stamp, shown latency and clock mark
+-- two lists of counted completions give a counter the same count, stamp, measured latency and stamp units
 pub record SameCounter (xs ys : List Counted) : Type 0 where
   pub count : countOf xs ≡ countOf ys
   pub stamp : stampOf (lastLoad xs) ≡ stampOf (lastLoad ys)
   pub latency : latencyOf (lastLoad xs) ≡ latencyOf (lastLoad ys)
   pub units : unitsOf (lastLoad xs) ≡ unitsOf (lastLoad ys)
 
--- Two histories agree in the settings in force (discard aside), the steps, each count, stamp, shown latency and clock
--- mark of both windows, and the debug record.
+-- two histories have the same settings in force, timer and debug log and, for each counter of both windows, the same
+-- count, stamp, measured latency and stamp units
 pub record Agree (a b : Past) : Type 0 where
   pub settings : inForce a ≡ inForce b
   pub timer : timerAt a ≡ timerAt b
@@ -81,7 +81,7 @@ pub record Agree (a b : Past) : Type 0 where
   pub static-window : (n : ℕ) → n < 12 → SameCounter (static a n) (static b n)
   pub debug : debugAt a ≡ debugAt b
 
--- Demand 3: for every two histories the pages after them are equal byte for byte exactly when the two agree.
+-- Demand 3: two histories leave the same page bytes exactly if they agree
 abbrev pub PagesAgree : Type 0
 PagesAgree = (h k : History) → OfBytes h → OfBytes k → (pageOf (play h) ≡ pageOf (play k)) ↔ Agree (pastOf h) (pastOf k)
 

@@ -12,14 +12,14 @@ use Rattle.monitor.specs.declared.commands.Kind.the-variants.{Read, Writ
 use Rattle.monitor.specs.declared.commands.Bucket.{Bucket}
 use Rattle.monitor.specs.declared.commands.Bucket.the-variants as bucket
 
--- A kind is Read (0), Write (1) or Deallocate (2).
+-- 01, The monitor's record: each kind's number; other commands have none
 abbrev pub saysKind : Kind → Option ℕ
 saysKind Read = some 0
 saysKind Write = some 1
 saysKind Deallocate = some 2
 saysKind Other = none
 
--- A bucket is 0 to 3.
+-- 01, The monitor's record: the bucket's number; below threshold A there is none
 abbrev pub saysBucket : Bucket → Option ℕ
 saysBucket (bucket.At b) = some b
 saysBucket bucket.Below = none
@@ -28,14 +28,14 @@ saysBucket bucket.Below = none
 abbrev pub saysCounter : ℕ → Option ℕ
 saysCounter n = cond (ltb n 12) (some n) none
 
--- Opcode 02h is Read, 01h Write, 09h Deallocate; the others are not counted.
+-- 01, A completion: the kind that an opcode has; 9 is Dataset Management, whatever its attributes
 unfoldable pub kindOf : Command → Option ℕ
 kindOf c =
     cond (eqb (c .opcode) 2) (some 0)
     (cond (eqb (c .opcode) 1) (some 1)
     (cond (eqb (c .opcode) 9) (some 2) none))
 
--- A threshold byte v means 5 × (v + 1) ms; at or above counts as reached.
+-- 01, Settings: threshold byte 0 is 5 ms, and each further one 5 ms more. 01, A completion: an equal latency reaches it
 abbrev pub reaches : ℕ → ℕ → Bool
 reaches us v = leb (5000 * (v + 1)) us
 
@@ -44,27 +44,27 @@ unfoldable pub highestBelow : List ℕ → ℕ → ℕ → Option ℕ
 highestBelow thresholds us zero = none
 highestBelow thresholds us (suc b) = cond (reaches us (getD thresholds b 0)) (some b) (highestBelow thresholds us b)
 
--- The bucket is the highest one whose threshold it reaches; A to D belong to buckets 0 to 3.
+-- 01, A completion: the one bucket of a latency, tried from D, bucket 3, down to A, bucket 0
 unfoldable pub bucketOf : List ℕ → Command → Option ℕ
 bucketOf thresholds c = highestBelow thresholds (c .latency) 4
 
--- A pair is a bucket and a kind; its pair number is 3 × bucket + kind, 0 to 11.
+-- 01, The monitor's record: the counter of a bucket and a kind, by number (document 01: pair, pair number)
 abbrev pub counterAt : Option ℕ → Option ℕ → Option ℕ
 counterAt (some b) (some k) = some (3 * b + k)
 counterAt (some b) none = none
 counterAt none k = none
 
--- Below A it is not counted.
+-- 01, A completion: whether a latency is long enough to count at all
 abbrev pub reachesA : List ℕ → Command → Bool
 reachesA thresholds c = reaches (c .latency) (getD thresholds 0 0)
 
--- With the monitor disabled it is not counted.
+-- 01, A completion: the counter that a completion counts for; none while the monitor is disabled
 unfoldable pub counterOf : Settings → Command → Option ℕ
 counterOf s c =
     cond (s .enabled)
     (cond (reachesA (s .thresholds) c) (counterAt (bucketOf (s .thresholds) c) (kindOf c)) none)
     none
 
--- The latency in whole ms is rounded down and held at 65,535.
+-- 01, A completion: the whole ms of a latency, as many as two bytes hold
 unfoldable pub millisecondsOf : Command → ℕ
 millisecondsOf c = min (c .latency / 1000) 65535

@@ -7,25 +7,25 @@ use Rattle.logpage.specs.Fields.{unset}
 use Rattle.logpage.specs.declared.DebugLog.{DebugLog}
 use Rattle.logpage.specs.declared.Window.{Window}
 
--- bit n for pair n
+-- 01, Settings: whether counter n's bit is set in a mask
 abbrev pub bit : ℕ → ℕ → Bool
 bit mask n = eqb (mask / 2 ^ n % 2) 1
 
--- The pair's count grows by one and holds at 4,294,967,295.
+-- 01, A completion: one more, up to the counter's top
 abbrev pub onceMore : ℕ → ℕ
 onceMore counter = min (counter + 1) 4294967295
 
--- This latency in ms is strictly larger than the shown one, and the sum of elapsed time since the pair's last load is at
--- least 100 × the minimum window; 0 means none.
+-- 01, A completion: what mode largest asks for: more ms than were measured (as many are not enough), and a minimum
+-- window, in units of 100 ms, that is over since the last load
 abbrev pub exceeds : (latency since ms minimum : ℕ) → Bool
 exceeds latency since ms minimum = ltb latency ms && leb (100 * minimum) since
 
--- The stamp is loaded if it is unset; or if the pair's mode is largest, and the latency exceeds the shown one.
+-- 01, A completion: whether the stamp is loaded. An unset one always is, a set one in mode largest alone
 unfoldable pub loads : (stamp latency since ms : ℕ) (largest : Bool) (minimum : ℕ) → Bool
 loads stamp latency since ms largest minimum = eqb stamp unset || (largest && exceeds latency since ms minimum)
 
--- the window after a completion for counter n. Loading sets the stamp to the clock, the shown latency to this latency in
--- ms, and the mark to 1 if the clock is host-set, else 0.
+-- 01, A completion: the window after one for counter n. A load stores the clock, the ms (document 01: shown latency),
+-- and whether the host set the clock (document 01: clock mark)
 unfoldable pub countedIn : Bool → (n clock ms : ℕ) (hostSet : Bool) → Window → Window
 countedIn load n clock ms hostSet w =
     record {
@@ -35,11 +35,11 @@ countedIn load n clock ms hostSet w =
       units = cond load (set (w .units) n hostSet) (w .units);
     }
 
--- If the pair's trigger bit is 1 and no debug record is held, one is taken; held: its stamp is set. A count already at
--- its top triggers all the same.
+-- 01, A completion: whether a debug log is taken: the counter's trigger is on and none is held, as its stamp is unset.
+-- The count has no part in it
 unfoldable pub triggers : (trigger : Bool) (stamp : ℕ) → Bool
 triggers trigger stamp = trigger && eqb stamp unset
 
--- what a debug record holds: ms, clock, clock mark and the pair as one set bit
+-- 01, A completion: the debug log of a completion for counter n (document 01: debug record)
 abbrev pub debugLog : (n clock ms : ℕ) (hostSet : Bool) → DebugLog
 debugLog n clock ms hostSet = record { stamp = clock; latency = ms; source = 2 ^ n; units = hostSet }

@@ -1,4 +1,4 @@
--- 'At the edges': the cases that are marked P.
+-- 01, At the edges: the cases P1 to P12 as one table, with one claim about its rows.
 use mathlib.Core.Path.{_≡_}
 use mathlib.Core.Bool.{Bool, true, false}
 use mathlib.Core.List.{List, [], _∷_}
@@ -33,7 +33,7 @@ enabledWith threshold thresholds =
 abbrev pub read : ℕ → Command
 read us = record { opcode = 2; latency = us }
 
--- With A-D 0, 1, 3, 9
+-- thresholds of 5, 10, 20 and 50 ms
 abbrev pub usual : List ℕ
 usual = 0 ∷ 1 ∷ 3 ∷ 9 ∷ []
 
@@ -42,8 +42,9 @@ unfoldable pub elapsedAnswers : Monitor → List ℕ → List CallAnswer
 elapsedAnswers m [] = []
 elapsedAnswers m (ms ∷ later) = elapsedAnswer m ms ∷ elapsedAnswers (afterElapsed m ms) later
 
--- a row of the table: a Read and its bucket, by these thresholds; a Read and the measured latency of its bucket then; elapsed
--- times by this timer threshold, and whether each ends a window; a bucket, a kind, and the page byte of their stamp
+-- a row of the table: a Read and its bucket, by these thresholds; a Read, its bucket, and the latency measured there;
+-- elapsed times, and whether each ends a window, by this timer threshold; a bucket, a kind, and the page byte where
+-- their stamp begins
 pub data Edge : Type 0 where
   bucket : (thresholds : List ℕ) (us : ℕ) → Option ℕ → Edge
   measures : (us bucket ms : ℕ) → Edge

@@ -1,4 +1,4 @@
--- The facts of a history, each asked at a place: of what was done before it.
+-- 01, The facts of a history: all of this file. Each fact is asked at a place, of what was done before it.
 use mathlib.Core.Bool.{Bool, false, cond, _&&_}
 use mathlib.Core.List.{List, [], _∷_}
 use mathlib.Core.Option.{Option, none, some}
@@ -17,7 +17,7 @@ use Rattle.monitor.specs.History.{Effect, Past, ClockSetting, settingsIn
 use Rattle.monitor.specs.History.{latest, since, onlyIf}
 use Rattle.monitor.specs.Settings.{decoded, discard}
 
--- In force: the settings last accepted before a place, else all zero.
+-- in force: what the latest accepted settings say, or a new monitor's settings
 unfoldable pub inForce : Past → Settings
 inForce past = found noSettings decoded (latest settingsIn past)
 
@@ -30,15 +30,15 @@ sum (x ∷ xs) = sum xs + x
 abbrev pub start : Effect → Option ℕ
 start e = none
 
--- Time: the sum of accepted elapsed times.
+-- time: all elapsed time that was accepted
 abbrev pub elapsedAt : Effect → Past → Option ℕ
 elapsedAt e past = elapsedIn e
 
 unfoldable pub time : Past → ℕ
 time past = sum (since start elapsedAt past)
 
--- Clock at a place: time since the latest accepted clock call, power-up or the start before it, plus the value if that
--- was a clock call, held at 281,474,976,710,655; host-set if that was a clock call.
+-- the clock: what it was last set to (0 by power-up, and at the start) and the elapsed time since then, up to its top;
+-- and whether the host had set it (document 01: host-set)
 unfoldable pub clockAt : Past → ℕ
 clockAt past =
     min (found 0 (λ (set : ClockSetting). set .value) (latest clockIn past) + sum (since clockIn elapsedAt past))
@@ -47,32 +47,31 @@ clockAt past =
 unfoldable pub hostSetAt : Past → Bool
 hostSetAt past = found false (λ (set : ClockSetting). set .hostSet) (latest clockIn past)
 
--- settings with enable 1
+-- settings that enable the monitor
 abbrev pub enablingIn : Effect → Option Settings
 enablingIn e = found none (λ s. onlyIf (decoded s .enabled) (decoded s)) (settingsIn e)
 
--- Take the settings with enable 1 last accepted, p their timer threshold.
+-- the timer threshold of the latest settings that enable (document 01: p)
 unfoldable pub timerThreshold : Past → ℕ
 timerThreshold past = found 0 (λ (s : Settings). s .«timer_threshold») (latest enablingIn past)
 
--- t: the time while enabled from them to a later place
+-- the elapsed time since those settings, without what passed while disabled (document 01: t)
 abbrev pub whileEnabled : Effect → Past → Option ℕ
 whileEnabled e past = found none (onlyIf (inForce past .enabled)) (elapsedIn e)
 
 unfoldable pub enabledTime : Past → ℕ
 enabledTime past = sum (since enablingIn whileEnabled past)
 
--- Enabled completions after them are in window t ÷ (300,000 × p), rounded down. At the history's end this number n is
--- the running window's. Without such settings t and p are 0, and so is t ÷ 0.
+-- the number of the active window, the first being 0. Without settings that enable, time and threshold are 0, and 0 ÷ 0
+-- is 0
 unfoldable pub windowAt : Past → ℕ
 windowAt past = enabledTime past / (300000 * timerThreshold past)
 
--- Steps are t ÷ 300,000, rounded down, less n × p, or 0 without such settings.
+-- the timer (document 01: steps): the whole increments of that time, less those of the windows that ended
 unfoldable pub timerAt : Past → ℕ
 timerAt past = enabledTime past / 300000 - windowAt past * timerThreshold past
 
--- A counted completion, with its counter and its place. Whether a completion is enabled, and its pair, mode, minimum
--- window and trigger bit, go by those in force at its own place, whatever is accepted later.
+-- a counted completion, with its counter and its place: what becomes of it is asked of the settings in force there
 pub record Counted : Type 0 where
   pub counter : ℕ
   pub command : Command
@@ -84,8 +83,8 @@ countedAt e past =
     (λ c. found none (λ n. some (record { counter = n; command = c; before = past })) (counterOf (inForce past) c))
     (completionIn e)
 
--- the completions counted since those settings, the newest first: at each of their places those settings are the last
--- accepted with enable 1 too
+-- the completions counted since the latest settings that enable, the newest first; those settings are the latest such
+-- ones at each of their places too, so the numbers of windows can be compared
 abbrev pub sinceEnabled : Past → List Counted
 sinceEnabled past = since enablingIn countedAt past
 
@@ -94,7 +93,7 @@ unfoldable pub filter : (Counted → Bool) → List Counted → List Counted
 filter test [] = []
 filter test (x ∷ xs) = cond (test x) (x ∷ filter test xs) (filter test xs)
 
--- the counted completions of one counter in the running window, and in the last finished one
+-- one counter's completions in the active window, and in the static one (document 01: running, last finished)
 abbrev pub activeFor : Past → ℕ → Counted → Bool
 activeFor past n x = eqb (windowAt (x .before)) (windowAt past) && eqb (x .counter) n
 
@@ -107,12 +106,12 @@ active past n = filter (activeFor past n) (sinceEnabled past)
 unfoldable pub static : Past → ℕ → List Counted
 static past n = filter (staticFor past n) (sinceEnabled past)
 
--- Count: the number of the pair's counted completions in the window, held at 4,294,967,295.
+-- the count: how many there are, up to the counter's top
 unfoldable pub countOf : List Counted → ℕ
 countOf xs = min (length xs) 4294967295
 
--- Loads: the first of those completions and, in mode largest only, each with more ms than the last load before it and
--- time since that of at least 100 × the minimum window.
+-- whether x loads the stamp again after a load: in mode largest, with more ms, and with the minimum window over. The
+-- first completion in a window always loads it
 abbrev pub loadsAfter : Counted → Counted → Bool
 loadsAfter x load =
     bit (inForce (x .before) .mode) (x .counter) && (ltb (millisecondsOf (load .command)) (millisecondsOf (x .command)) &&
@@ -126,8 +125,8 @@ unfoldable pub lastLoad : List Counted → Option Counted
 lastLoad [] = none
 lastLoad (x ∷ earlier) = orLoad x (lastLoad earlier)
 
--- The last load's ms is the shown latency, the clock at its place is the stamp, and the mark is 1 if that clock is
--- host-set, else 0; without a load the pair is as in an empty window.
+-- what the last load left: the clock at its place (stamp), its ms (document 01: shown latency), and whether the host
+-- had set that clock (document 01: clock mark); without a load, what an empty window has
 abbrev pub stampOf : Option Counted → ℕ
 stampOf load = found unset (λ x. clockAt (x .before)) load
 
@@ -155,8 +154,8 @@ windowFrom completions =
       units = each (λ n. unitsOf (lastLoad (completions n)));
     }
 
--- Debug record: ms, clock, mark and pair bit of the first counted completion with its trigger bit 1 since discard 1 was
--- last accepted, or the start; else none.
+-- the debug log (document 01: debug record): that of the earliest counted completion with its trigger on since the last
+-- discard
 abbrev pub discardIn : Effect → Option (List ℕ)
 discardIn e = found none (λ s. onlyIf (eqb (discard s) 1) s) (settingsIn e)
 

@@ -10,7 +10,7 @@ use Rattle.monitor.specs.Record.{afterPowerUp}
 use Rattle.monitor.specs.Refusals.{settingsRefusal, elapsedRefusal, clockRefusal, pageRefusal}
 use Rattle.monitor.specs.Refusals.{settingsBackRefusal}
 
--- Settings stand in a history as their bytes, page and settings back as a buffer length.
+-- 01, The facts of a history: a call with what it is given; of a lent buffer only the length matters
 pub data Call : Type 0 where
   settings : List ℕ → Call
   completion : Command → Call
@@ -43,7 +43,7 @@ playFrom m (c ∷ h) = after c (playFrom m h)
 abbrev pub play : History → Monitor
 play h = playFrom newMonitor h
 
--- the row that turns a call away
+-- the number of the row that turns a call away
 abbrev pub refusalOf : Call → Option ℕ
 refusalOf (settings s) = settingsRefusal s
 refusalOf (completion c) = none
@@ -75,7 +75,7 @@ asked powerUp = poweredUp
 asked (page n) = nothing
 asked (settingsBack n) = nothing
 
--- Accepted: turned away by no rule. A call that is refused does nothing.
+-- 01, The facts of a history: what a call does, which is nothing unless it is accepted
 abbrev pub effectOf : Call → Effect
 effectOf c = ifAccepted (refusalOf c) (asked c)
 

@@ -20,8 +20,8 @@ use Rattle.monitor.specs.Timer.{grown, ticked, inWindow}
 abbrev pub noLoads : List ℕ
 noLoads = replicate 12 0
 
--- A new monitor is disabled. All its settings are zero, its clock is 0 and not host-set, and both windows are empty
--- with no debug record. Steps and partial step are 0.
+-- 01, The monitor's record: before any call. Document 01 calls `timer` steps, `partial` the partial step, the active
+-- window the running one and the static window the last finished one
 unfoldable pub newMonitor : Monitor
 newMonitor =
     record {
@@ -36,14 +36,13 @@ newMonitor =
       debug = noDebugLog;
     }
 
--- a refused call leaves the record, and a lent buffer, untouched
+-- what a call leaves of the record, or of a lent buffer: the old content if it is refused, else the next
 abbrev pub untouchedIf : {A : Type 0} → Option ℕ → A → A → A
 untouchedIf (some n) old next = old
 untouchedIf none old next = next
 
--- Accepted settings replace the old ones. With discard 1 the debug record is removed, with 0 it is kept, whatever
--- enable says. With enable 1 both windows become empty and steps and partial step become 0, also when nothing changed.
--- With enable 0 windows and steps are kept and frozen.
+-- 01, Settings: the record after accepted settings. Enabling starts windows and timer anew, even if no setting differs;
+-- disabling leaves them as they are. Discard decides on the debug log by itself
 abbrev replaced : Monitor → List ℕ → Monitor
 replaced m s =
     let on : Bool = decoded s .enabled in
@@ -66,8 +65,8 @@ afterSettings m s = untouchedIf (settingsRefusal s) m (replaced m s)
 unfoldable pub settingsAnswer : List ℕ → CallAnswer
 settingsAnswer s = unlessRefused (settingsRefusal s) done
 
--- whether a completion of so many ms loads counter n's stamp: the sum of elapsed time since the last load is the time
--- in the window now, less that at the load
+-- whether a completion of so many ms loads counter n's stamp; the time since the last load is the time in the window
+-- now, less that at the load
 abbrev pub loadsAt : Monitor → ℕ → ℕ → Bool
 loadsAt m n ms =
     loads (getD (m .«active_window» .stamps) n 0) (getD (m .«active_window» .latencies) n 0)
@@ -76,7 +75,7 @@ loadsAt m n ms =
     (bit (m .settings .mode) n)
     (m .settings .«minimum_window»)
 
--- whether a completion for counter n takes a debug record
+-- whether a completion for counter n takes a debug log
 abbrev triggersAt : Monitor → ℕ → Bool
 triggersAt m n = triggers (bit (m .settings .trigger) n) (m .debug .stamp)
 
@@ -95,16 +94,16 @@ afterCounted m n ms =
       debug = cond (triggersAt m n) (debugLog n (m .clock) ms (m .«host_set»)) (m .debug);
     }
 
--- the others are not counted
+-- a completion without a counter leaves the record as it is
 abbrev onCounter : Option ℕ → Monitor → ℕ → Monitor
 onCounter (some n) m ms = afterCounted m n ms
 onCounter none m ms = m
 
--- what a completion does; it is never refused
+-- 01, A completion: what it does; nothing turns it away
 unfoldable pub afterCompletion : Monitor → Command → Monitor
 afterCompletion m c = onCounter (counterOf (m .settings) c) m (millisecondsOf c)
 
--- the pair with two yes-or-no facts, or 'not counted'
+-- 01, A completion: what it answers
 abbrev counterAnswer : Option ℕ → Monitor → ℕ → CallAnswer
 counterAnswer (some n) m ms = counted n (loadsAt m n ms) (triggersAt m n)
 counterAnswer none m ms = notCounted
@@ -112,12 +111,12 @@ counterAnswer none m ms = notCounted
 unfoldable pub completionAnswer : Monitor → Command → CallAnswer
 completionAnswer m c = counterAnswer (counterOf (m .settings) c) m (millisecondsOf c)
 
--- steps, partial step and the window's end after elapsed time
+-- the timer after elapsed time, and whether the window ends
 abbrev tickedBy : Monitor → ℕ → Tick
 tickedBy m ms =
     ticked (m .settings .enabled) (m .settings .«timer_threshold») (m .timer) (m .partial) ms
 
--- Where the window ends, the running window becomes the last finished one, a new empty one starts.
+-- 01, Time and power: the record after accepted elapsed time. A window that ends takes the static window's place
 abbrev afterTime : Monitor → ℕ → Monitor
 afterTime m ms =
     let t : Tick = tickedBy m ms in
@@ -133,14 +132,14 @@ afterTime m ms =
       debug = m .debug;
     }
 
--- what elapsed time does, and what it answers
+-- 01, Time and power: what elapsed time does, and what it answers
 unfoldable pub afterElapsed : Monitor → ℕ → Monitor
 afterElapsed m ms = untouchedIf (elapsedRefusal ms) m (afterTime m ms)
 
 unfoldable pub elapsedAnswer : Monitor → ℕ → CallAnswer
 elapsedAnswer m ms = unlessRefused (elapsedRefusal ms) (ended (tickedBy m ms .expired))
 
--- the record with another clock; the time since a stamp's load stays
+-- the record with another clock; the times of the window and of its loads stay
 abbrev withClock : Monitor → ℕ → Bool → Monitor
 withClock m value hostSet =
     record {
@@ -155,13 +154,13 @@ withClock m value hostSet =
       debug = m .debug;
     }
 
--- Setting the clock takes 64 bits, stores them and makes the clock host-set.
+-- 01, Time and power: the host sets the clock (document 01: host-set)
 unfoldable pub afterClock : Monitor → ℕ → Monitor
 afterClock m value = untouchedIf (clockRefusal value) m (withClock m value true)
 
 unfoldable pub clockAnswer : ℕ → CallAnswer
 clockAnswer value = unlessRefused (clockRefusal value) done
 
--- Power-up sets the clock to 0 and not host-set, and keeps all else.
+-- 01, Time and power: power-up starts the clock anew, as one that no host has set
 unfoldable pub afterPowerUp : Monitor → Monitor
 afterPowerUp m = withClock m 0 false

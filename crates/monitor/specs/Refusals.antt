@@ -1,4 +1,4 @@
--- Where a call is turned away: rows 1 to 10 of document 01's table; 11 and 12 stand with the event files.
+-- 01, Where a call is turned away: rows 1 to 10 of its table. Rows 11 and 12 are those of `events`.
 use Prim.Native.Nat.{ℕ}
 use mathlib.Core.Bool.{Bool, true, false, not, _||_}
 use mathlib.Core.List.{List}
@@ -9,46 +9,46 @@ use Rattle.endian.specs.Bytes.{anySet}
 use Rattle.logpage.specs.declared.Settings.{Settings}
 use Rattle.monitor.specs.Settings.{discard, enable, decoded}
 
--- Within a call the earliest row wins, and no call is turned away otherwise.
+-- a row's number if its test says so, else what the rows after it say
 abbrev pub row : ℕ → Bool → Option ℕ → Option ℕ
 row n true later = some n
 row n false later = later
 
--- one of two numbers above a limit
+-- whether one of two numbers is above a limit
 abbrev pub eitherAbove : ℕ → ℕ → ℕ → Bool
 eitherAbove top a b = ltb top a || ltb top b
 
--- A above B, B above C, or C above D
+-- whether a threshold is above the next
 abbrev pub unordered : List ℕ → Bool
 unordered t =
     ltb (getD t 1 0) (getD t 0 0) || (ltb (getD t 2 0) (getD t 1 0) || ltb (getD t 3 0) (getD t 2 0))
 
--- discard or enable above 1; timer threshold 0; thresholds out of order; bit 12 to 15 of mode or trigger is set, which
--- makes it above 4,095. Settings are checked alike for either enable.
+-- rows 3 to 6, about the fields. A mask above 4,095 has a bit that belongs to no counter. Settings that disable are
+-- checked as those that enable are
 unfoldable pub fieldRefusal : ℕ → ℕ → Settings → Option ℕ
 fieldRefusal discard enable s =
     row 3 (eitherAbove 1 discard enable)
     (row 4 (eqb (s .«timer_threshold») 0)
     (row 5 (unordered (s .thresholds)) (row 6 (eitherAbove 4095 (s .mode) (s .trigger)) none)))
 
--- settings: length is not 4,096; a byte from 13 on is not zero; then the fields
+-- rows 1 and 2, about length and reserved bytes, before those about the fields
 unfoldable pub settingsRefusal : List ℕ → Option ℕ
 settingsRefusal s =
     row 1 (not (eqb (length s) 4096))
     (row 2 (anySet (drop 13 s)) (fieldRefusal (discard s) (enable s) (decoded s)))
 
--- elapsed time: above 300,000
+-- row 7: elapsed time of more than five minutes
 unfoldable pub elapsedRefusal : ℕ → Option ℕ
 elapsedRefusal ms = row 7 (ltb 300000 ms) none
 
--- clock: 281,474,976,710,656 or more
+-- row 8: a clock of more than 48 bits
 unfoldable pub clockRefusal : ℕ → Option ℕ
 clockRefusal value = row 8 (ltb 281474976710655 value) none
 
--- page: lent buffer is not 512 bytes
+-- row 9: a buffer that a page does not fill exactly
 unfoldable pub pageRefusal : ℕ → Option ℕ
 pageRefusal n = row 9 (not (eqb n 512)) none
 
--- settings back: lent buffer is not 4,096 bytes
+-- row 10: a buffer that settings do not fill exactly
 unfoldable pub settingsBackRefusal : ℕ → Option ℕ
 settingsBackRefusal n = row 10 (not (eqb n 4096)) none

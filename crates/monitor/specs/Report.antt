@@ -21,7 +21,7 @@ fieldsOf m =
       debug = m .debug;
     }
 
--- the page of a record
+-- 01, The page: the page of a record
 unfoldable pub pageOf : Monitor → List ℕ
 pageOf m = pageBytes (fieldsOf m)
 
@@ -31,7 +31,7 @@ afterPage m buffer = untouchedIf (pageRefusal (length buffer)) buffer (pageOf m)
 unfoldable pub pageAnswer : ℕ → CallAnswer
 pageAnswer n = unlessRefused (pageRefusal n) done
 
--- the settings given back
+-- 01, Settings: the settings given back
 unfoldable pub settingsOf : Monitor → List ℕ
 settingsOf m = encoded (m .settings)
 

@@ -1,4 +1,4 @@
--- Settings: the table of fields, in 4,096 bytes.
+-- 01, Settings: the fields, read from 4,096 bytes and written to them.
 use Prim.Native.Nat.{ℕ, _+_}
 use mathlib.Core.List.{List, [], _∷_, _++_}
 use lib.Dec.{eqb}
@@ -8,7 +8,7 @@ use Rattle.endian.specs.Stores.{lowFirst}
 use Rattle.logpage.specs.Block.{zeros, flag}
 use Rattle.logpage.specs.declared.Settings.{Settings}
 
--- the byte at a place
+-- the byte at a place, 0 past the end
 abbrev byte : List ℕ → ℕ → ℕ
 byte s at = getD s at 0
 
@@ -16,15 +16,15 @@ byte s at = getD s at 0
 abbrev wordAt : List ℕ → ℕ → ℕ
 wordAt s at = word (byte s at) (byte s (at + 1))
 
--- 11: discard the debug record: 0 or 1
+-- the order to discard the debug log (document 01: debug record)
 abbrev pub discard : List ℕ → ℕ
 discard s = byte s 11
 
--- 12: enable: 0 or 1
+-- whether to enable
 abbrev pub enable : List ℕ → ℕ
 enable s = byte s 12
 
--- 0-1 timer threshold; 2 to 5 thresholds A to D; 6-7 stamping mode; 8 minimum window; 9-10 debug trigger
+-- the settings that the bytes say; discard is an order and not among them
 unfoldable pub decoded : List ℕ → Settings
 decoded s =
     record {
@@ -36,17 +36,17 @@ decoded s =
       enabled = eqb (enable s) 1;
     }
 
--- Giving settings back fills all 4,096 bytes, the discard byte as 0.
+-- the settings given back: every byte is written, that of discard as zero
 unfoldable pub encoded : Settings → List ℕ
 encoded s =
-    lowFirst 2 (s .«timer_threshold»)  -- 0-1
-    ++ lowFirst 1 (byte (s .thresholds) 0)  -- 2 to 5
+    lowFirst 2 (s .«timer_threshold»)  -- 0-1: timer threshold
+    ++ lowFirst 1 (byte (s .thresholds) 0)  -- 2-5: thresholds A to D
     ++ lowFirst 1 (byte (s .thresholds) 1)
     ++ lowFirst 1 (byte (s .thresholds) 2)
     ++ lowFirst 1 (byte (s .thresholds) 3)
-    ++ lowFirst 2 (s .mode)  -- 6-7
-    ++ lowFirst 1 (s .«minimum_window»)  -- 8
-    ++ lowFirst 2 (s .trigger)  -- 9-10
-    ++ zeros 1  -- 11
-    ++ lowFirst 1 (flag (s .enabled))  -- 12
+    ++ lowFirst 2 (s .mode)  -- 6-7: mode of each counter
+    ++ lowFirst 1 (s .«minimum_window»)  -- 8: minimum window
+    ++ lowFirst 2 (s .trigger)  -- 9-10: debug log trigger of each counter
+    ++ zeros 1  -- 11: discard
+    ++ lowFirst 1 (flag (s .enabled))  -- 12: enable
     ++ zeros 4083
