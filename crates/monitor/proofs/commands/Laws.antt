@@ -1,4 +1,4 @@
--- Laws of the search for a bucket, and of its limits.
+-- Laws of the search for a bucket, and of the counter that it leads to.
 use mathlib.Core.Path.{_≡_, refl}
 use mathlib.Core.Bool.{Bool, true, false, cond}
 use mathlib.Core.List.{List}
