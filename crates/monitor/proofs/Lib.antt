@@ -1,2 +1,3 @@
 pub mod histories
 pub mod Edges
+pub mod Counters

@@ -3,7 +3,7 @@ use Prim.Native.Nat.{ℕ, zero, suc, _+_, _*_, _/_, min}
 use mathlib.Core.Bool.{Bool, cond}
 use mathlib.Core.List.{List}
 use mathlib.Core.Option.{Option, none, some}
-use lib.Dec.{eqb, leb, ltb}
+use lib.Dec.{eqb, leb}
 use lib.ListN.{getD}
 use Rattle.logpage.specs.declared.Settings.{Settings}
 use Rattle.monitor.specs.declared.commands.Command.{Command}
@@ -23,10 +23,6 @@ saysKind Other = none
 abbrev pub saysBucket : Bucket → Option ℕ
 saysBucket (bucket.At b) = some b
 saysBucket bucket.Below = none
-
--- a number below 12 names a counter, any other none
-abbrev pub saysCounter : ℕ → Option ℕ
-saysCounter n = cond (ltb n 12) (some n) none
 
 -- 01, A completion: the kind that an opcode has; 9 is Dataset Management, whatever its attributes
 unfoldable pub kindOf : Command → Option ℕ
@@ -53,6 +49,11 @@ abbrev pub counterAt : Option ℕ → Option ℕ → Option ℕ
 counterAt (some b) (some k) = some (3 * b + k)
 counterAt (some b) none = none
 counterAt none k = none
+
+-- the counter as a number: twelve is that of none
+abbrev pub counterNumber : Option ℕ → ℕ
+counterNumber (some n) = n
+counterNumber none = 12
 
 -- 01, A completion: whether a latency is long enough to count at all
 abbrev pub reachesA : List ℕ → Command → Bool

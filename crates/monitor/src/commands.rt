@@ -3,7 +3,7 @@ ghost use mathlib.Core.Path.{_≡_};
 ghost use mathlib.Core.Option.{some};
 ghost use Prim.Native.Nat.{_<_};
 ghost use Rattle.monitor.specs.Commands.{kindOf, reaches, bucketOf, counterAt, counterOf, millisecondsOf};
-ghost use Rattle.monitor.specs.Commands.{saysKind, saysBucket, saysCounter};
+ghost use Rattle.monitor.specs.Commands.{saysKind, saysBucket, counterNumber};
 use logpage::Settings;
 
 // What a completion brings.
@@ -41,7 +41,7 @@ fn reaches(latency: u32, threshold: u8) -> bool
 // The number of the counter of a bucket and a kind.
 fn counter_at(bucket: u8, kind: Kind) -> u16
     requires { ⌜ bucket < 4 ⌝ }
-    ensures { λ r. ⌜ saysCounter r ≡ counterAt (some bucket) (saysKind kind) ⌝ }
+    ensures { λ r. ⌜ r ≡ counterNumber (counterAt (some bucket) (saysKind kind)) ⌝ }
 {
     let read = 3 * (bucket as u16);
     match kind {
@@ -94,7 +94,7 @@ impl Command {
     // The counter that the completion counts for, or NOT_COUNTED. Most completions are below threshold A, so that is
     // asked first.
     pub fn counter(self, s: Settings) -> u16
-        ensures { λ r. ⌜ saysCounter r ≡ counterOf s self ⌝ }
+        ensures { λ r. ⌜ r ≡ counterNumber (counterOf s self) ⌝ }
     {
         if s.enabled {
             let thresholds = s.thresholds;

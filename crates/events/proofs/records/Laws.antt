@@ -15,10 +15,11 @@ use lib.Seq.{take-all, getD-drop, paste, paste-suc}
 use Rattle.endian.specs.Bytes.{anySet}
 use Rattle.endian.specs.Loads.{number}
 use Rattle.endian.proofs.Numbers.{below, both-clear, first-set}
+use Rattle.monitor.proofs.Counters.{no-counter}
 use Rattle.monitor.specs.declared.commands.Command.{Command}
 use Rattle.monitor.specs.declared.record.Monitor.{Monitor}
 use Rattle.monitor.specs.Answers.{CallAnswer, refused, done, ended, unlessRefused}
-use Rattle.monitor.specs.Commands.{saysCounter, counterOf}
+use Rattle.monitor.specs.Commands.{counterNumber, counterOf}
 use Rattle.monitor.specs.History.{Call, completion, elapsed, clock, after, playFrom, refusalOf}
 use Rattle.monitor.specs.Record.{afterCompletion, elapsedAnswer}
 use Rattle.monitor.specs.Refusals.{elapsedRefusal}
@@ -215,12 +216,12 @@ pub passed-over :
     length r ≡ 16 →
     isCompletion r ≡ true →
     c ≡ commandOf r →
-    saysCounter n ≡ counterOf (m .settings) c →
+    n ≡ counterNumber (counterOf (m .settings) c) →
     n ≡ 12 →
     Made m r m done
 unfolding afterCompletion
-passed-over m r c n sixteen is e says twelve =
-    let nothing : counterOf (m .settings) c ≡ none = sym says ∙ ap saysCounter twelve in
+passed-over m r c n sixteen is e number twelve =
+    let nothing = no-counter (m .settings) c n number (omega arith) in
     stands-for m r m done (completion (commandOf r)) (completion-call r sixteen is) (rw (rw e at nothing)) refl
 
 -- elapsed time is turned away, or not, whatever becomes of the window

@@ -1,19 +1,17 @@
--- Laws of the search for a bucket, and of a counter's number.
+-- Laws of the search for a bucket, and of the counter that it leads to.
 use mathlib.Core.Path.{_≡_, refl}
 use mathlib.Core.Bool.{Bool, true, false, cond}
 use mathlib.Core.List.{List}
 use mathlib.Core.Option.{Option, none, some}
-use Prim.Native.Nat.{ℕ, zero, suc, _+_, _*_, _-_, _≤_, _<_}
+use Prim.Native.Nat.{ℕ, zero, suc, _+_, _*_, _-_, _<_}
 use native.Mathlib.Nat.{not-suc-le-zero}
 use native.Mathlib.Numerals.{sub-one}
 use native.Mathlib.Omega.{arith}
-use borrow.Author.Tests.{lt-ltb, le-ltb}
 use lib.Dec.{eqb}
 use lib.ListN.{getD}
 use Rattle.logpage.specs.declared.Settings.{Settings}
 use Rattle.monitor.specs.declared.commands.Command.{Command}
 use Rattle.monitor.specs.Commands.{highestBelow, reaches, reachesA, bucketOf, kindOf, counterAt, counterOf}
-use Rattle.monitor.specs.Commands.{saysCounter}
 
 -- one step of the search down
 module _ (thresholds : List ℕ) (us : ℕ) where
@@ -43,13 +41,6 @@ module _ (thresholds : List ℕ) (us : ℕ) where
 pub nothing : (thresholds : List ℕ) (us : ℕ) → highestBelow thresholds us 0 ≡ none
 unfolding highestBelow
 nothing thresholds us = refl
-
--- a number below twelve names a counter
-pub named : (n : ℕ) → n < 12 → saysCounter n ≡ some n
-named n h = rw (lt-ltb n 12 h)
-
-pub unnamed : (n : ℕ) → 12 ≤ n → saysCounter n ≡ none
-unnamed n h = rw (le-ltb n 12 h)
 
 -- a number that is found is below a limit
 data Below (n : ℕ) : Option ℕ → Type 0 where

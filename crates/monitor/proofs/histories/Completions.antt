@@ -22,7 +22,7 @@ use Rattle.monitor.specs.Facts.{discardIn, triggered, orEarliest, earlie
 use Rattle.monitor.specs.History.{completed, Past, found, andThen, latest, since}
 use Rattle.monitor.specs.Record.{afterCompletion}
 use Rattle.monitor.specs.Timer.{inWindow}
-use Rattle.monitor.proofs.commands.Laws.{counter-below, counter-enabled, named}
+use Rattle.monitor.proofs.commands.Laws.{counter-below, counter-enabled}
 use Rattle.monitor.proofs.record.Laws.{decide}
 use Rattle.monitor.proofs.histories.Facts.{Good, fine, Here, here, span, into, clock-top, last-load-all}
 use Rattle.monitor.proofs.histories.Facts.{described}
@@ -206,9 +206,7 @@ counted-step past g c n e =
     let on = counter-enabled (inForce past) c n e in
     let all : All (Here past) (active past n) = all-active past g on n in
     let load = loads-is past c n few all in
-    let decided =
-    decide (recordOf past) c n (millisecondsOf c) _ _ _ _ (named n few ∙ sym e) few refl refl refl refl (sym load)
-    in
+    let decided = decide (recordOf past) c n (millisecondsOf c) _ _ _ _ e refl refl refl refl (sym load) in
     sym (rw (now-is past) at (decided .next)) ∙
     (λ i. record {
       settings = inForce past;

@@ -1,9 +1,9 @@
 -- What the calls' branches come to, as laws over plain values.
-use mathlib.Core.Path.{_≡_, sym, _∙_}
+use mathlib.Core.Path.{_≡_}
 use mathlib.Core.Bool.{Bool, cond}
 use mathlib.Core.List.{List}
 use mathlib.Core.Option.{some, none}
-use Prim.Native.Nat.{ℕ, _-_, _≤_, _<_}
+use Prim.Native.Nat.{ℕ, _-_, _≤_}
 use lib.Dec.{eqb}
 use lib.ListN.{getD, set}
 use borrow.Author.Tests.{le-ltb}
@@ -17,10 +17,9 @@ use Rattle.monitor.specs.Answers.{done, refused, notCounted, counted, en
 use Rattle.monitor.specs.Refusals.{settingsRefusal, elapsedRefusal}
 use Rattle.monitor.specs.Settings.{discard, decoded}
 use Rattle.monitor.specs.Counting.{bit, onceMore, loads, countedIn, triggers, debugLog}
-use Rattle.monitor.specs.Commands.{saysCounter, counterOf, millisecondsOf}
+use Rattle.monitor.specs.Commands.{counterOf, millisecondsOf}
 use Rattle.monitor.specs.Timer.{grown, ticked, inWindow}
 use Rattle.monitor.proofs.settings.Laws.{refused-by}
-use Rattle.monitor.proofs.commands.Laws.{named, unnamed}
 use Rattle.monitor.specs.Record.{noLoads, afterSettings, settingsAnswer, afterCompletion, completionAnswer}
 use Rattle.monitor.specs.Record.{afterElapsed, elapsedAnswer, loadsAt}
 
@@ -60,12 +59,11 @@ settings-accepted m s next debug on accepted read keeps enables =
 
 -- a completion that is not counted
 pub not-counted :
-    (m : Monitor) (c : Command) (n : ℕ) →
-    saysCounter n ≡ counterOf (m .settings) c →
-    12 ≤ n →
+    (m : Monitor) (c : Command) →
+    counterOf (m .settings) c ≡ none →
     (m ≡ afterCompletion m c) × (notCounted ≡ completionAnswer m c)
 unfolding afterCompletion completionAnswer
-not-counted m c n says h = let none-at = sym says ∙ unnamed n h in (rw none-at, rw none-at)
+not-counted m c e = (rw e, rw e)
 
 -- what a counted completion writes, by whether it loads the stamp
 abbrev pub recorded : Monitor → (n ms : ℕ) (log : DebugLog) (counters : List ℕ) (load : Bool) → Monitor
@@ -93,8 +91,7 @@ pub record Decided (m : Monitor) (c : Command) (n ms : ℕ) (log : DebugLog) (co
 
 pub decide :
     (m : Monitor) (c : Command) (n ms : ℕ) (log : DebugLog) (counters : List ℕ) (debug load : Bool) →
-    saysCounter n ≡ counterOf (m .settings) c →
-    n < 12 →
+    counterOf (m .settings) c ≡ some n →
     ms ≡ millisecondsOf c →
     debug ≡ triggers (bit (m .settings .trigger) n) (m .debug .stamp) →
     log ≡ cond debug (debugLog n (m .clock) ms (m .«host_set»)) (m .debug) →
@@ -102,8 +99,7 @@ pub decide :
     load ≡ loadsAt m n ms →
     Decided m c n ms log counters debug load
 unfolding afterCompletion completionAnswer countedIn
-decide m c n ms log counters debug load says few measured takes logs counts loading =
-    let chosen : counterOf (m .settings) c ≡ some n = sym says ∙ named n few in
+decide m c n ms log counters debug load chosen measured takes logs counts loading =
     record {
       next = rw (chosen, ← measured, ← loading, ← takes, ← logs, ← counts);
       answer = rw (chosen, ← measured, ← loading, ← takes);

@@ -1,9 +1,6 @@
 -- `counter_at`: a return for each kind.
-use Prim.Native.Nat.{_+_, _*_}
 use native.Mathlib.Nat.{add-zero}
-use native.Mathlib.Omega.{arith}
 use borrow.Author.Needs.{needs}
-use Rattle.monitor.proofs.commands.Laws.{named}
 use Rattle.monitor.proofs.commands.counter_at.Statement.{statement}
 use Rattle.monitor.proofs.commands.counter_at.Tie as tie
 
@@ -29,13 +26,13 @@ enum-told-4 : tie.Need-enum-told-4
 enum-told-4 c = search needs
 
 returns : tie.Need-returns
-returns c = rw (c .enum-told .given .1, add-zero) (named (3 * c .before .before .args .bucket) (omega arith))
+returns c = rw (c .enum-told .given .1, add-zero)
 
 returns-2 : tie.Need-returns-2
-returns-2 c = rw (c .enum-told2 .given .1) (named (3 * c .before .before .args .bucket + 1) (omega arith))
+returns-2 c = rw (c .enum-told2 .given .1)
 
 returns-3 : tie.Need-returns-3
-returns-3 c = rw (c .enum-told3 .given .1) (named (3 * c .before .before .args .bucket + 2) (omega arith))
+returns-3 c = rw (c .enum-told3 .given .1)
 
 returns-4 : tie.Need-returns-4
 returns-4 c = search needs

@@ -1,6 +1,7 @@
 -- `Monitor::completion`: counted with the stamp loaded; counted with it kept; not counted.
 use mathlib.Core.Path.{_≡_, sym, _∙_}
 use mathlib.Core.Bool.{Bool, true, false}
+use Rattle.monitor.proofs.Counters.{is-counter, no-counter}
 use Rattle.monitor.proofs.record.Laws.{not-counted, Decided, decide}
 use borrow.Author.Needs.{needs}
 use Rattle.monitor.proofs.record.Monitor.completion.Statement.{statement}
@@ -81,7 +82,7 @@ decided :
     (at-triggers c .triggers .result)
     load
 decided c load e =
-    decide _ _ _ _ _ _ _ _ (at-counter c .counter .ensures) (at-milliseconds c .before .if1 .taken)
+    decide _ _ _ _ _ _ _ _ (is-counter _ _ _ (at-counter c .counter .ensures) (at-milliseconds c .before .if1 .taken))
     (at-milliseconds c .milliseconds .ensures)
     (at-triggers c .triggers .ensures)
     (at-counted c .before .before .logged .ensures)
@@ -101,7 +102,7 @@ returns-2 c =
     (rw (c .of2 .ensures) (d .next), d .answer)
 
 returns-3 : tie.Need-returns-3
-returns-3 c = not-counted _ _ _ (c .before .counter .ensures) (c .if1 .left)
+returns-3 c = not-counted _ _ (no-counter _ _ _ (c .before .counter .ensures) (c .if1 .left))
 
 pub completion-spec : {M : Type 1} → statement M
 completion-spec =
