@@ -1,14 +1,11 @@
--- What the page program prints of an event file, block by block: the lines of refused records, the line of bytes that
--- are left over, and the page (document 01, The page program).
+-- What is printed of an event file before the page: the lines of refused records, and that of what is left over
+-- (document 01, The page program).
 use mathlib.Core.List.{List, [], _∷_, _++_}
-use mathlib.Core.Path.{_≡_}
 use Prim.Native.Nat.{ℕ, zero, suc, _+_, _*_, _/_, _%_, _^_}
-use lib.ListN.{length, take}
-use Rattle.monitor.specs.History.{found, play}
-use Rattle.monitor.specs.Report.{pageOf}
+use lib.ListN.{take}
+use Rattle.monitor.specs.History.{found}
 use Rattle.text.specs.Lines.{refusedLine}
-use Rattle.events.specs.Records.{recordAt, wholeRecords, historyOf, recordRefusal, endRefusal}
-use Rattle.text.specs.Pages.{textOf}
+use Rattle.events.specs.Records.{recordAt, wholeRecords, recordRefusal, endRefusal}
 
 -- the line of record i, if it is refused: its number, and the refusal. The bytes' first record has the number `first`;
 -- numbers have 64 bits, more than any file needs.
@@ -32,7 +29,3 @@ withRoom s room = take (16 * (room / 50)) s
 -- the line of what is left over behind so many records, in a last block of n bytes
 unfoldable pub endLine : (records n : ℕ) → List ℕ
 endLine records n = found [] (λ refusal. refusedLine (records ∷ refusal ∷ [])) (endRefusal n)
-
--- all that is printed of a file
-unfoldable pub printed : List ℕ → List ℕ
-printed s = refusedLines 0 s ++ endLine (wholeRecords s) (length s) ++ textOf (pageOf (play (historyOf s)))

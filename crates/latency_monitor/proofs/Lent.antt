@@ -1,5 +1,5 @@
 -- A function that lends the record to a rule, with a further parameter or none, meets its contract: the record that is
--- stored is the one of the rule's definition, and the numbers is made of the rule's answer.
+-- stored is the one of the rule's definition, and the numbers are made of the rule's answer.
 use mathlib.Core.Path.{_≡_, refl, ap, _∙_}
 use Prim.Native.Nat.{ℕ, suc}
 use mathlib.Core.Option.{Option}

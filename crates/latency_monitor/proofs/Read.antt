@@ -1,5 +1,5 @@
 -- A function that lends the record to be read and a buffer to be written meets its contract: the buffer is the one of
--- the rule's definition, and the numbers is made of the rule's answer.
+-- the rule's definition, and the numbers are made of the rule's answer.
 use mathlib.Core.Path.{_≡_, refl, ap, _∙_}
 use Prim.Native.Nat.{ℕ}
 use lib.ListN.{length}
@@ -54,7 +54,7 @@ use Rattle.latency_monitor.proofs.Locals.{value, frees-cell}
 use Rattle.latency_monitor.proofs.Walks.{states, Answers, makes-numbers, Loan, loan, IsRecord, calls}
 use Rattle.latency_monitor.proofs.Walks.{loops, runs-as, framed, stands}
 
--- `Claim` is what the rule's contract says of the buffer beside that; the numbers does not need it.
+-- `Claim` is what the rule's contract says of the buffer beside that; the numbers do not need it.
 module _ (#rule #numbers : Name) (after : Monitor → List ℕ → List ℕ) (answers : List ℕ → CallAnswer)
     (Claim : Monitor → List ℕ → List ℕ → Type 0) where
   abbrev rule-ended : Ended

@@ -1,5 +1,5 @@
 -- The body of a function that stores what its rule hands back: the record is loaded, the rule is called, the record of
--- its outcome is stored, and its answer makes the numbers.
+-- its outcome is stored, and its answer is made numbers.
 use mathlib.Core.Path.{_≡_, refl, _∙_}
 use Prim.Native.Nat.{ℕ, zero, suc}
 use mathlib.Core.Option.{Option, none as absent, some as present}
@@ -144,7 +144,7 @@ module _ {N R : RattleType} {PN : Plain N} (O : Outcome PN) (PR : Plain R) (numb
     abbrev Stored : O .row .Denot → List (Item 𝓤) → List (Item 𝓤)
     Stored r Γ = lent 𝓤 L (O .next r) ++ handed r ∷ pointer ∷ raw B ∷ loaded ∷ Γ
 
-    -- the end, once the numbers is there
+    -- the end, once the numbers are there
     abbrev Ends : O .row .Denot → List (Item 𝓤) → Type 1
     Ends r Γ = (y : R .Denot) (u : Val) → y ≡ numbers (O .answer r)
         → Sq W (‵ (R .own y (u ∷ [])) ∷ ‵ (cell (PR .mir) l₀ u) ∷ Stored r Γ) (frees E (prop (Kf u)))
@@ -170,7 +170,7 @@ module _ {N R : RattleType} {PN : Plain N} (O : Outcome PN) (PR : Plain R) (numb
           land ! (found ! at-p (stop !)) (init ! 6 refl (O .typed 𝓤 H A W r v is)) $
           rewrite ! 6 (λ (u : Val). ‵ (cell outcome lp u)) (O .tells r v is) refl $ k r met (O .parts r v is))))))
 
-      -- the record of its outcome is stored, the loan is shut, and the answer, which is at q, makes the numbers
+      -- the record of its outcome is stored, the loan is shut, and the answer, which is at q, is made numbers
       keeps : {Γ : List (Item 𝓤)} {q : Place} (r : O .row .Denot) → Both-are PN (O .next r) (O .answer r)
           → ((i : Item 𝓤) → Opd (Go {0}) W (i ∷ unanswered ∷ Stored r Γ) E (copy q) (PN .val (O .answer r)))
           → Ends r Γ → Sq W (Handed r Γ) (Runs (seq keeping (answering q)))

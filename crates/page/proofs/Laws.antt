@@ -1,4 +1,5 @@
 -- Laws of what has been read so far.
+use mathlib.Core.Bool.{true, false}
 use mathlib.Core.List.{List, [], _++_}
 use mathlib.Core.Path.{_≡_, refl, _∙_}
 use Prim.Native.Nat.{ℕ, _+_, _/_, _%_, _≤_}
@@ -30,3 +31,7 @@ block-read p s m e t whole so-far =
       monitor = e ∙ (rw (so-far .monitor) (in-parts newMonitor t s whole));
       next = omega (arith, so-far .next, length-append t s);
     }
+
+-- where no block follows, nothing is asked
+pub no-more : {A : Type 0} → false ≡ true → A
+no-more e = let z : _≡_ {A = ℕ} 0 1 = cc in absurd (omega arith)

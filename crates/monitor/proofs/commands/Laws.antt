@@ -88,7 +88,7 @@ counter-below s c n e =
     let at-a-bucket = at-below (bucket-below (s .thresholds) (c .latency) 4) (kind-below c) in
     inside (rw e at (either (s .enabled) (either (reachesA (s .thresholds) c) at-a-bucket absent) absent))
 
--- With the monitor disabled it is not counted.
+-- a disabled monitor counts nothing
 pub counter-enabled : (s : Settings) (c : Command) (n : ℕ) → counterOf s c ≡ some n → s .enabled ≡ true
 unfolding counterOf
 counter-enabled s c n e = by (s .enabled) refl

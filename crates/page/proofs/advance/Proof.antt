@@ -1,9 +1,10 @@
--- `advance`: a block has at most 4,096 records.
+-- `advance`: a block has at most 4,096 records, and is read whole where there may be more.
 use mathlib.Core.Path.{sym}
 use Prim.Native.Nat.{_+_, _≤_}
 use native.Mathlib.Omega.{arith}
 use lib.ListN.{length-take}
-use lib.Seq.{length-take-le}
+use Rattle.page.proofs.Laws.{no-more}
+use lib.Seq.{length-take-le, take-all}
 use borrow.Author.Needs.{needs}
 use Rattle.page.proofs.advance.Statement.{statement}
 use Rattle.page.proofs.advance.Tie as tie
@@ -21,7 +22,7 @@ same-length : tie.Need-same-length
 same-length c = search needs
 
 returns : tie.Need-returns
-returns c = search needs
+returns c = (omega arith, (λ more. no-more more))
 
 slice-reshare-prefix-take : tie.Need-slice-reshare-prefix-take
 slice-reshare-prefix-take c = search needs
@@ -61,7 +62,7 @@ same-length-3 : tie.Need-same-length-3
 same-length-3 c = search needs
 
 returns-2 : tie.Need-returns-2
-returns-2 c = few (c .before .before .before .before .before .before .before .before)
+returns-2 c = (few (c .before .before .before .before .before .before .before .before), (λ more. no-more more))
 
 same-length-4 : tie.Need-same-length-4
 same-length-4 c = search needs
@@ -70,7 +71,11 @@ same-length-5 : tie.Need-same-length-5
 same-length-5 c = search needs
 
 returns-3 : tie.Need-returns-3
-returns-3 c = few (c .before .before .before .before .before .before .before)
+returns-3 c =
+    let taken = c .before .before .before .before .before .before .before in
+    let filled = taken .before .before .before .before .before .before .fill in
+    let all = take-all (filled .result .n) (filled .last .1 .0) (omega arith) in
+    (few taken, (λ more. rw all at (taken .take .ensures .0)))
 
 same-length-6 : tie.Need-same-length-6
 same-length-6 c = search needs
@@ -79,7 +84,7 @@ same-length-7 : tie.Need-same-length-7
 same-length-7 c = search needs
 
 returns-4 : tie.Need-returns-4
-returns-4 c = few (c .before .before .before .before .before .before)
+returns-4 c = (few (c .before .before .before .before .before .before), (λ more. no-more more))
 
 pub advance-spec : {M : Type 1} → statement M
 advance-spec =
