@@ -1,5 +1,4 @@
--- What is printed of an event file before the page: the lines of refused records, and that of what is left over
--- (document 01, The page program).
+-- 01, The page program: what is printed before the page, the lines of refused records and of what is left over.
 use mathlib.Core.List.{List, [], _∷_, _++_}
 use Prim.Native.Nat.{ℕ, zero, suc, _+_, _*_, _/_, _%_, _^_}
 use lib.ListN.{take}

@@ -1,4 +1,4 @@
--- Refused lines, as the programs print them (document 01, The page program).
+-- 01, The page program: the line of what is refused.
 use mathlib.Core.Bool.{cond}
 use mathlib.Core.List.{List, [], _∷_, _++_}
 use Prim.Native.Nat.{ℕ, zero, suc, _+_, _/_, _%_}
