@@ -5,13 +5,16 @@
 //! - its vectors. In a group whose name starts with "settings" they are settings vectors, else event vectors.
 //!
 //! An event vector, played on a new monitor, is
-//! - the length of an event file (u32, at most 65,536) and its bytes, also 1 to 15 after the last whole record;
+//! - the length of an event file (u32, at most 131,072) and its bytes, also 1 to 15 after the last whole record;
 //! - the number of presets (u8), and for each a counter number (u8, 0 to 11), a value (u32) and a record number (u32):
 //!   just before that record is read, the counter of the active window is set to the value. Records count from 0, the
 //!   record is a whole one of the file, presets stand in order of it, the counter has been counted in the window, and
 //!   the monitor is enabled;
 //! - the number of refusals (u16), and for each the record number (u32) and the refusal (u8), in order. A refusal by 12
 //!   has the number of whole records;
+//! - the number of whole records (u16), and for each its answer (u16): 8 x N if it is refused by N; 1 'done'; 2 'not
+//!   counted'; 3 if it is counted, with 8 more if the stamp was loaded, 16 more if a debug log was taken, and 32 x the
+//!   counter; for elapsed time 4, and 5 if a window ended;
 //! - the length of the buffer lent for the page (u16, at most 4,200) and the refusal (u8), 9 or 0; after 0 follow the
 //!   512 bytes of the page;
 //! - the length of the buffer lent for settings back (u16, at most 4,200) and the refusal (u8), 10 or 0; after 0 follow
@@ -23,11 +26,13 @@
 //! - the refusal (u8), 1 to 6 or 0; after 0 follow bytes 0 to 12 of the settings given back afterwards, and all others
 //!   are zero.
 
-use crate::events::{read, Preset, Refused, RECORD};
+use crate::answers::Answer;
+use crate::events::{read, record_answers, Preset, Refused, RECORD};
+use crate::facts::COUNTERS;
 use crate::history::{Call, PAGE_LENGTH};
 use crate::page::{page, settings_back};
 
-pub const LONGEST_FILE: usize = 65_536;
+pub const LONGEST_FILE: usize = 131_072;
 pub const LONGEST_BUFFER: u16 = 4_200;
 
 /// An event file and the lengths of the buffers that are lent after it.
@@ -91,10 +96,26 @@ fn write_events(out: &mut Vec<u8>, vector: &EventVector) {
         out.extend(record.to_le_bytes());
         out.push(number);
     }
+    let answers = record_answers(&vector.file, &vector.presets);
+    out.extend((answers.len() as u16).to_le_bytes());
+    answers.iter().for_each(|&answer| out.extend(coded(answer).to_le_bytes()));
     out.extend(vector.page_buffer.to_le_bytes());
     write_answer(out, &page(&history, vector.page_buffer.into()));
     out.extend(vector.back_buffer.to_le_bytes());
     write_answer(out, &settings_back(&history, vector.back_buffer.into()));
+}
+
+/// An answer as a number.
+pub fn coded(answer: Answer) -> u16 {
+    match answer {
+        Answer::Refused(number) => 8 * u16::from(number),
+        Answer::Done => 1,
+        Answer::NotCounted => 2,
+        Answer::Counted { counter, loaded, debug } => {
+            3 + 8 * u16::from(loaded) + 16 * u16::from(debug) + 32 * counter as u16
+        }
+        Answer::Elapsed { ended } => 4 + u16::from(ended),
+    }
 }
 
 fn write_settings(out: &mut Vec<u8>, vector: &SettingsVector) {
@@ -170,6 +191,7 @@ fn check_events(reader: &mut Reader) -> Result<(), String> {
         earliest = record;
     }
     let mut earliest = 0;
+    let mut refused = Vec::new();
     for _ in 0..reader.u16()? {
         let (record, number) = (reader.u32()?, reader.u8()?);
         let fits = match number {
@@ -181,13 +203,37 @@ fn check_events(reader: &mut Reader) -> Result<(), String> {
             return reader.wrong("a refusal out of place");
         }
         earliest = record + 1;
+        refused.push((record, number));
     }
-    check_answer(reader, PAGE_LENGTH, 9, PAGE_LENGTH)?;
-    check_answer(reader, 4096, 10, 13)
+    refused.retain(|&(record, _)| record < records);
+    check_answers(reader, records, &refused)?;
+    check_buffer(reader, PAGE_LENGTH, 9, PAGE_LENGTH)?;
+    check_buffer(reader, 4096, 10, 13)
+}
+
+/// An answer for each record, which refuses exactly those that are named as refused.
+fn check_answers(reader: &mut Reader, records: u32, refused: &[(u32, u8)]) -> Result<(), String> {
+    if u32::from(reader.u16()?) != records {
+        return reader.wrong("another number of answers than of records");
+    }
+    let mut refused = refused.iter().peekable();
+    for record in 0..records {
+        let answer = reader.u16()?;
+        let due = refused.next_if(|&&(r, _)| r == record).map(|&(_, number)| 8 * u16::from(number));
+        let fits = match answer % 8 {
+            0 => due == Some(answer),
+            3 => due.is_none() && usize::from(answer / 32) < COUNTERS,
+            _ => due.is_none() && [1, 2, 4, 5].contains(&answer),
+        };
+        if !fits {
+            return reader.wrong("an answer that does not fit");
+        }
+    }
+    Ok(())
 }
 
 /// A buffer's length and the refusal, which is due exactly when the length is not the right one, or so many bytes.
-fn check_answer(reader: &mut Reader, right: usize, number: u8, bytes: usize) -> Result<(), String> {
+fn check_buffer(reader: &mut Reader, right: usize, number: u8, bytes: usize) -> Result<(), String> {
     let length = reader.u16()?;
     let refusal = reader.u8()?;
     let due = if usize::from(length) == right { 0 } else { number };
