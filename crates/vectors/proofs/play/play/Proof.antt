@@ -1,15 +1,16 @@
 -- `vectors::play::play` is safe and ends.
 use Prim.Native.Nat.{_-_, _/_}
 use lib.ListN.{length}
+use native.Mathlib.Omega.{arith}
 use borrow.Author.Needs.{needs}
 use Rattle.vectors.proofs.play.play.Statement.{statement}
 use Rattle.vectors.proofs.play.play.Tie as tie
 
 abbrev Inv-loop : tie.InvT-loop
-Inv-loop file presets refusals p₀ k₀ p k = Unit {0}
+Inv-loop file presets refusals answers p₀ k₀ p k = Unit {0}
 
 abbrev μ-loop : tie.MeasureT-loop
-μ-loop file presets refusals p₀ k₀ p k = length presets / 9 - k
+μ-loop file presets refusals answers p₀ k₀ p k = length presets / 9 - k
 
 new-requires : tie.Need-new-requires Inv-loop μ-loop
 new-requires c κs = search needs
@@ -36,7 +37,9 @@ preset-requires : tie.Need-preset-requires Inv-loop μ-loop
 preset-requires c κs = search needs
 
 add-k : tie.Need-add-k Inv-loop μ-loop
-add-k c = search needs
+add-k c =
+    let l = c .before .before in
+    omega (arith, l .loop-test .taken, l .before .before .before .before .before .before .before .good)
 
 loop-less : tie.Need-loop-less Inv-loop μ-loop
 loop-less c = search needs

@@ -1,8 +1,8 @@
--- `vectors::play::records` is safe and ends: each run goes on after the record that stopped the one before.
+-- `vectors::play::runs` is safe and ends: each run goes on after the record that stopped the one before.
 use Prim.Native.Nat.{_-_}
 use borrow.Author.Needs.{needs}
-use Rattle.vectors.proofs.play.records.Statement.{statement}
-use Rattle.vectors.proofs.play.records.Tie as tie
+use Rattle.vectors.proofs.play.runs.Statement.{statement}
+use Rattle.vectors.proofs.play.runs.Tie as tie
 
 abbrev Inv-loop : tie.InvT-loop
 Inv-loop p₀ file to refusals i₀ p i = Unit {0}
@@ -64,8 +64,8 @@ loop-again-2 c = search needs
 returns-2 : tie.Need-returns-2 Inv-loop μ-loop
 returns-2 c = search needs
 
-pub records-spec : {M : Type 1} → statement M
-records-spec =
+pub runs-spec : {M : Type 1} → statement M
+runs-spec =
     tie.close
     (tie.spec
     Inv-loop
