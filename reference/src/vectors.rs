@@ -10,11 +10,10 @@
 //!   just before that record is read, the counter of the active window is set to the value. Records count from 0, the
 //!   record is a whole one of the file, presets stand in order of it, the counter has been counted in the window, and
 //!   the monitor is enabled;
-//! - the number of refusals (u16), and for each the record number (u32) and the refusal (u8), in order. A refusal by 12
-//!   has the number of whole records;
-//! - the number of whole records (u16), and for each its answer (u16): 8 x N if it is refused by N; 1 'done'; 2 'not
-//!   counted'; 3 if it is counted, with 8 more if the stamp was loaded, 16 more if a debug log was taken, and 32 x the
-//!   counter; for elapsed time 4, and 5 if a window ended;
+//! - the number of answers (u16), and each of them (u16): one for each whole record, and one for the end of the file.
+//!   An answer is 8 x N if refused by N, which is 12 at the end with bytes left over; 1 'done', also at the end with
+//!   none; 2 'not counted'; 3 if counted, with 8 more if the stamp was loaded, 16 more if a debug log was taken, and 32
+//!   x the counter; for elapsed time 4, and 5 if a window ended;
 //! - the length of the buffer lent for the page (u16, at most 4,200) and the refusal (u8), 9 or 0; after 0 follow the
 //!   512 bytes of the page;
 //! - the length of the buffer lent for settings back (u16, at most 4,200) and the refusal (u8), 10 or 0; after 0 follow
@@ -27,7 +26,7 @@
 //!   are zero.
 
 use crate::answers::Answer;
-use crate::events::{read, record_answers, Preset, Refused, RECORD};
+use crate::events::{read, record_answers, Preset, RECORD};
 use crate::facts::COUNTERS;
 use crate::history::{Call, PAGE_LENGTH};
 use crate::page::{page, settings_back};
@@ -82,7 +81,7 @@ pub fn write(groups: &[Group]) -> Vec<u8> {
 }
 
 fn write_events(out: &mut Vec<u8>, vector: &EventVector) {
-    let (history, refused) = read(&vector.file, &vector.presets);
+    let (history, _) = read(&vector.file, &vector.presets);
     out.extend((vector.file.len() as u32).to_le_bytes());
     out.extend(&vector.file);
     out.push(vector.presets.len() as u8);
@@ -91,12 +90,8 @@ fn write_events(out: &mut Vec<u8>, vector: &EventVector) {
         out.extend(preset.value.to_le_bytes());
         out.extend(preset.record.to_le_bytes());
     }
-    out.extend((refused.len() as u16).to_le_bytes());
-    for Refused { record, number } in refused {
-        out.extend(record.to_le_bytes());
-        out.push(number);
-    }
-    let answers = record_answers(&vector.file, &vector.presets);
+    let mut answers = record_answers(&vector.file, &vector.presets);
+    answers.push(if vector.file.len() % RECORD == 0 { Answer::Done } else { Answer::Refused(12) });
     out.extend((answers.len() as u16).to_le_bytes());
     answers.iter().for_each(|&answer| out.extend(coded(answer).to_le_bytes()));
     out.extend(vector.page_buffer.to_le_bytes());
@@ -190,44 +185,29 @@ fn check_events(reader: &mut Reader) -> Result<(), String> {
         }
         earliest = record;
     }
-    let mut earliest = 0;
-    let mut refused = Vec::new();
-    for _ in 0..reader.u16()? {
-        let (record, number) = (reader.u32()?, reader.u8()?);
-        let fits = match number {
-            3..=8 | 11 => record < records,
-            12 => record == records && length % RECORD != 0,
-            _ => false,
-        };
-        if !fits || record < earliest {
-            return reader.wrong("a refusal out of place");
-        }
-        earliest = record + 1;
-        refused.push((record, number));
-    }
-    refused.retain(|&(record, _)| record < records);
-    check_answers(reader, records, &refused)?;
+    check_answers(reader, records, length % RECORD != 0)?;
     check_buffer(reader, PAGE_LENGTH, 9, PAGE_LENGTH)?;
     check_buffer(reader, 4096, 10, 13)
 }
 
-/// An answer for each record, which refuses exactly those that are named as refused.
-fn check_answers(reader: &mut Reader, records: u32, refused: &[(u32, u8)]) -> Result<(), String> {
-    if u32::from(reader.u16()?) != records {
-        return reader.wrong("another number of answers than of records");
+/// An answer for each record, and one for the end.
+fn check_answers(reader: &mut Reader, records: u32, left_over: bool) -> Result<(), String> {
+    if u32::from(reader.u16()?) != records + 1 {
+        return reader.wrong("not an answer for each record and the end");
     }
-    let mut refused = refused.iter().peekable();
-    for record in 0..records {
+    for _ in 0..records {
         let answer = reader.u16()?;
-        let due = refused.next_if(|&&(r, _)| r == record).map(|&(_, number)| 8 * u16::from(number));
         let fits = match answer % 8 {
-            0 => due == Some(answer),
-            3 => due.is_none() && usize::from(answer / 32) < COUNTERS,
-            _ => due.is_none() && [1, 2, 4, 5].contains(&answer),
+            0 => matches!(answer / 8, 3..=8 | 11),
+            3 => usize::from(answer / 32) < COUNTERS,
+            _ => matches!(answer, 1 | 2 | 4 | 5),
         };
         if !fits {
-            return reader.wrong("an answer that does not fit");
+            return reader.wrong("an answer that no record has");
         }
+    }
+    if reader.u16()? != if left_over { 8 * 12 } else { 1 } {
+        return reader.wrong("the answer at the end");
     }
     Ok(())
 }

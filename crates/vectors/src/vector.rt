@@ -44,9 +44,9 @@ fn page(m: Monitor, single: Monitor) -> Verdict {
     let Part::Read(refusal) = input::answer(&mut bytes) else {
         return Verdict::Unread;
     };
-    let by_runs = judged(compare::page(m, n, refusal, &bytes));
+    let as_a_whole = judged(compare::page(m, n, refusal, &bytes));
     let by_records = judged(compare::page(single, n, refusal, &bytes));
-    both(by_runs, by_records)
+    both(as_a_whole, by_records)
 }
 
 // The settings that both monitors give back, into the buffer of the vector.
@@ -58,9 +58,9 @@ fn settings_back(m: Monitor, single: Monitor) -> Verdict {
     let Part::Read(refusal) = input::answer(&mut bytes) else {
         return Verdict::Unread;
     };
-    let by_runs = judged(compare::settings_back(m, n, refusal, &bytes));
+    let as_a_whole = judged(compare::settings_back(m, n, refusal, &bytes));
     let by_records = judged(compare::settings_back(single, n, refusal, &bytes));
-    both(by_runs, by_records)
+    both(as_a_whole, by_records)
 }
 
 // An event vector.
@@ -73,23 +73,16 @@ fn events() -> Verdict {
     let Part::Read(preset_bytes) = input::list(1, 9, &mut presets) else {
         return Verdict::Unread;
     };
-    let mut refusals = io::large_buffer();
-    let Part::Read(refusal_bytes) = input::list(2, 5, &mut refusals) else {
-        return Verdict::Unread;
-    };
     let mut answers = io::large_buffer();
     let Part::Read(answer_bytes) = input::list(2, 2, &mut answers) else {
         return Verdict::Unread;
     };
-    let p = play::play(
-        input::first(&file, bytes),
-        input::first(&presets, preset_bytes),
-        input::first(&refusals, refusal_bytes),
-        input::first(&answers, answer_bytes),
-    );
-    let m = p.monitor;
-    let single = p.single;
-    let answered = judged(p.agrees);
+    let records = input::first(&file, bytes);
+    let before = input::first(&presets, preset_bytes);
+    let m = play::replayed(records, before);
+    let a = play::answered(records, before, input::first(&answers, answer_bytes));
+    let single = a.monitor;
+    let answered = judged(a.agrees);
     let shown = page(m, single);
     let given = settings_back(m, single);
     both(answered, both(shown, given))
