@@ -75,11 +75,11 @@ isElapsed = isKind 3 1 4 8
 unfoldable pub recordRefusal : List ℕ → Option ℕ
 recordRefusal r = found (some 11) refusalOf (callOf r)
 
--- what a record answers on a monitor: 11, or what its own call answers
+-- what a record answers on a monitor: its call's own answer, or 11 (document 01, Where a call is turned away)
 unfoldable pub recordAnswer : Monitor → List ℕ → CallAnswer
 recordAnswer m r = found (refused 11) (answerOf m) (callOf r)
 
--- what each case of the code's answer to a record says
+-- what the code's cases say, in the answers that document 01 names for a completion, for time and for the others
 abbrev pub saysRecord : RecordAnswer → CallAnswer
 saysRecord (answer.Refused n) = refused n
 saysRecord answer.Done = done

@@ -36,7 +36,7 @@ after powerUp m = afterPowerUp m
 after (page n) m = m
 after (settingsBack n) m = m
 
--- what a call answers on a record, by the call's own definition
+-- what a call answers on a record, by the call's own definition (document 01, each call's section)
 abbrev pub answerOf : Monitor → Call → CallAnswer
 answerOf m (settings s) = settingsAnswer s
 answerOf m (completion c) = completionAnswer m c

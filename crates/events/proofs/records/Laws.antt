@@ -271,7 +271,10 @@ let-through time.Active h = refl
 let-through time.Ended h = refl
 
 -- a record's answer names its refusal
-pub refusal-named : (m : Monitor) (r : List ℕ) (answer : CallAnswer) → answer ≡ recordAnswer m r → recordRefusal r ≡ refusalIn answer
+pub refusal-named :
+    (m : Monitor) (r : List ℕ) (answer : CallAnswer) →
+    answer ≡ recordAnswer m r →
+    recordRefusal r ≡ refusalIn answer
 unfolding recordAnswer recordRefusal
 refusal-named m r answer e = rw e (by (callOf r))
   where
