@@ -1,4 +1,4 @@
-//! What the last call of a history answers, asked of the history itself.
+//! What the calls of a history answer, asked of the history itself.
 
 use crate::facts::{all_counted, first_trigger, latest_load, window_number, Counted};
 use crate::history::{refusal, Call};
@@ -22,10 +22,22 @@ pub enum Answer {
 
 /// The answer to the last call of a history.
 pub fn answer(history: &[Call]) -> Answer {
+    last(history, &all_counted(history))
+}
+
+/// The answer to each call. Whether a completion counts goes by what is before it, so that is asked once for all.
+pub fn answers(history: &[Call]) -> Vec<Answer> {
+    let counted = all_counted(history);
+    let before = |end: usize| counted.partition_point(|c| c.place < end);
+    (1..=history.len()).map(|end| last(&history[..end], &counted[..before(end)])).collect()
+}
+
+/// The answer to the last call of a history with these counted completions.
+fn last(history: &[Call], counted: &[Counted]) -> Answer {
     let call = history.last().expect("a call");
     match (refusal(call), call) {
         (Some(number), _) => Answer::Refused(number),
-        (None, Call::Completion { .. }) => completion(history),
+        (None, Call::Completion { .. }) => completion(history, counted),
         (None, Call::Elapsed(_)) => Answer::Elapsed { ended: ended(history) },
         (None, _) => Answer::Done,
     }
@@ -33,9 +45,8 @@ pub fn answer(history: &[Call]) -> Answer {
 
 /// The stamp is loaded if this completion is its counter's last load in the window, and a debug log taken if it is the
 /// first trigger since the last discard.
-fn completion(history: &[Call]) -> Answer {
+fn completion(history: &[Call], counted: &[Counted]) -> Answer {
     let place = history.len() - 1;
-    let counted = all_counted(history);
     let Some(this) = counted.last().filter(|c| c.place == place) else { return Answer::NotCounted };
     let number = window_number(history, place);
     let alike = |c: &&Counted| c.counter == this.counter && window_number(history, c.place) == number;
@@ -43,7 +54,7 @@ fn completion(history: &[Call]) -> Answer {
     Answer::Counted {
         counter: this.counter,
         loaded: latest_load(&in_window).is_some_and(|c| c.place == place),
-        debug: first_trigger(history, &counted).is_some_and(|c| c.place == place),
+        debug: first_trigger(history, counted).is_some_and(|c| c.place == place),
     }
 }
 

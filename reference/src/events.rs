@@ -1,5 +1,6 @@
 //! Event files: records of 16 bytes, read as calls, and a writer for them.
 
+use crate::answers::{answers, Answer};
 use crate::history::{refusal, Call, Settings};
 use crate::page::{page, page_text};
 
@@ -76,6 +77,15 @@ pub fn read(file: &[u8], presets: &[Preset]) -> (Vec<Call>, Vec<Refused>) {
         refused.push(Refused { record: whole as u32, number: 12 });
     }
     (history, refused)
+}
+
+/// The answer of each whole record. One that is turned away by 11 stands for no call, and a preset is no record.
+pub fn record_answers(file: &[u8], presets: &[Preset]) -> Vec<Answer> {
+    let (history, _) = read(file, presets);
+    let answered = history.iter().zip(answers(&history)).filter(|(call, _)| !matches!(call, Call::Preset { .. }));
+    let mut answered = answered.map(|(_, answer)| answer);
+    let records = file.chunks_exact(RECORD).map(call);
+    records.map(|call| call.map_or(Answer::Refused(11), |_| answered.next().expect("an answer"))).collect()
 }
 
 /// What the page program prints for an event file.

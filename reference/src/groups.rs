@@ -1,15 +1,17 @@
 //! The vectors, group by group.
 
-use crate::events::{unnamed, Events, Preset};
+use crate::events::{unnamed, Events, Preset, RECORD};
 use crate::history::{Settings, TIMESTAMP_TOP};
 use crate::random::Random;
-use crate::vectors::{EventVector, Group, SettingsVector, Vectors, LONGEST_FILE};
+use crate::vectors::{EventVector, Group, SettingsVector, Vectors};
 
 const READ: u8 = 0x02;
 const WRITE: u8 = 0x01;
 const DEALLOCATE: u8 = 0x09;
 const KINDS: [u8; 3] = [READ, WRITE, DEALLOCATE];
 const LARGEST: u16 = 0x0FFF;
+/// The records that the page program reads at a time.
+const BLOCK: usize = 4_096;
 
 pub fn groups() -> Vec<Group> {
     vec![
@@ -25,6 +27,7 @@ pub fn groups() -> Vec<Group> {
         events("unknown kinds", unknown_kinds(&mut Random::new(3))),
         events("unnamed bytes", unnamed_bytes()),
         events("refusals", refusals()),
+        events("beyond one block", beyond_one_block()),
         events("random mixtures", random_mixtures(&mut Random::new(4))),
         events("damaged", damaged(&mut Random::new(5))),
         event_vectors("counters at their top", counters_at_their_top()),
@@ -619,6 +622,51 @@ fn refusals() -> Vec<Events> {
     files
 }
 
+/// A file, filled with one record up to record number `to`.
+fn filled(file: Events, filler: Events, to: usize) -> Events {
+    let more = to - file.0.len() / RECORD;
+    file.raw(&filler.0.repeat(more))
+}
+
+/// Refused records, the end of a window and bytes left over, on both sides of a block's end.
+fn beyond_one_block() -> Vec<Events> {
+    let mut files = Vec::new();
+    let settings = Settings { mode: LARGEST, debug_trigger: 0x0800, ..base() };
+    let row = |row: usize| breaking(std::array::from_fn(|r| r == row), row);
+    let unknown = [0; RECORD];
+    let mut unnamed = Events::default().completion(WRITE, 60_000).0;
+    unnamed[15] = 1;
+    // Completions that are not counted, up to so many records before the end of the block.
+    let counted = |before| {
+        let quick = Events::default().completion(READ, 4_999);
+        filled(each_counter(start(settings).elapsed(300_000)), quick, BLOCK - before)
+    };
+    // The same of elapsed time, and the time that is missing to the end of the window.
+    let timed = |before| {
+        let file = start(base()).completion(READ, 5_000).completion(WRITE, 10_000);
+        let file = filled(file, Events::default().elapsed(146), BLOCK - before);
+        (file, 600_000 - 146 * (BLOCK - before - 3) as u32)
+    };
+    // Bytes left over behind a block, and behind one record more: 0, 1 and 15.
+    let tail = Events::default().completion(READ, 50_000).0;
+    files.push(counted(2).raw(&unknown).elapsed(300_001));
+    files.push(counted(1).timestamp(1 << 48).raw(&tail[..1]));
+    files.push(counted(2).settings(row(0)).settings(row(1)).raw(&tail[..15]));
+    files.push(counted(1).raw(&unnamed).elapsed(300_001));
+    files.push(counted(1).settings(row(2)).settings(row(3)).raw(&tail[..1]));
+    // The window ends in the last record of the block, or in the first of the next.
+    let (file, rest) = timed(1);
+    files.push(file.elapsed(rest).completion(READ, 6_000).raw(&tail[..15]));
+    let (file, rest) = timed(2);
+    let file = file.settings(row(3)).settings(row(2)).elapsed(rest).settings(row(1)).timestamp(1 << 48);
+    files.push(file.completion(READ, 6_000).elapsed(300_000));
+    // Records 4,094 to 4,098 refused; settings, a load and a debug log after them.
+    let file = counted(2).raw(&unnamed).elapsed(300_001).timestamp(u64::MAX).settings(row(0)).raw(&unknown);
+    let file = file.completion(WRITE, 70_000).settings(Settings { discard: 1, enable: 0, ..settings });
+    files.push(file.settings(settings).completion(DEALLOCATE, 50_000).completion(DEALLOCATE, 51_000).raw(&tail[..7]));
+    files
+}
+
 fn random_settings(random: &mut Random) -> Settings {
     let widest = random.pick(&[4, 12, 60, 256]);
     let mut thresholds = [0; 4].map(|_: u8| random.below(widest) as u8);
@@ -702,9 +750,9 @@ fn random_mixtures(random: &mut Random) -> Vec<Events> {
     for _ in 0..8 {
         files.push(random_mixture(random, 600));
     }
-    // As long as an event file of a vector may be.
+    // A whole block.
     let mut longest = random_mixture(random, 4_200);
-    longest.0.truncate(LONGEST_FILE);
+    longest.0.truncate(RECORD * BLOCK);
     files.push(longest);
     files
 }

@@ -1,5 +1,5 @@
-use crate::answers::{answer, Answer};
-use crate::events::{printed, read, Events, Preset, Refused};
+use crate::answers::{answer, answers, Answer};
+use crate::events::{printed, read, record_answers, Events, Preset, Refused};
 use crate::facts::facts;
 use crate::groups::{example, groups};
 use crate::history::{refusal, Call, Settings};
@@ -113,7 +113,7 @@ fn edges() {
 }
 
 #[test]
-fn answers() {
+fn answers_of_calls() {
     let settings = Settings { timer_threshold: 1, mode: 1, debug_trigger: 1, ..base() };
     let file = Events::default().completion(READ, 5_000).settings(settings).elapsed(300_001).elapsed(299_999);
     let file = file.completion(READ, 4_999).completion(READ, 5_000).completion(READ, 5_999).completion(READ, 6_000);
@@ -132,6 +132,32 @@ fn answers() {
     ];
     let given: Vec<Answer> = (1..=history.len()).map(|end| answer(&history[..end])).collect();
     assert_eq!(given, expected);
+    assert_eq!(answers(&history), expected);
+}
+
+#[test]
+fn answers_of_records() {
+    let file = Events::default().settings(base()).raw(&[0; 16]).completion(READ, 5_000).completion(READ, 5_000);
+    let file = file.timestamp(1 << 48).elapsed(3).power_up().raw(&[2, 2, 0]);
+    let counted = |loaded| Answer::Counted { counter: 0, loaded, debug: false };
+    let expected = [
+        Answer::Done,
+        Answer::Refused(11),
+        counted(true),
+        counted(false),
+        Answer::Refused(8),
+        Answer::Elapsed { ended: false },
+        Answer::Done,
+    ];
+    assert_eq!(record_answers(&file.0, &[]), expected);
+    // A preset is no record, and has no part in the answers.
+    let preset = Preset { counter: 0, value: u32::MAX, record: 3 };
+    assert_eq!(record_answers(&file.0, &[preset]), expected);
+    let codes = [1, 88, 11, 3, 64, 4, 1];
+    assert_eq!(expected.map(vectors::coded), codes);
+    assert_eq!(vectors::coded(Answer::NotCounted), 2);
+    assert_eq!(vectors::coded(Answer::Elapsed { ended: true }), 5);
+    assert_eq!(vectors::coded(Answer::Counted { counter: 11, loaded: false, debug: true }), 371);
 }
 
 #[test]
@@ -177,6 +203,33 @@ fn vectors_are_in_the_format() {
     assert!(file.len() < 2_000_000);
     assert!(vectors::check(&file).is_ok());
     assert!(vectors::check(&file[..file.len() - 1]).is_err());
+}
+
+/// Refusals stand on both sides of a block's end, windows end there, and bytes are left over behind it.
+#[test]
+fn files_beyond_one_block() {
+    const END: usize = 4_096;
+    let group = groups().into_iter().find(|group| group.name == "beyond one block").unwrap();
+    let Vectors::Events(vectors) = group.vectors else { panic!("not of events") };
+    let lengths: Vec<usize> = vectors.iter().map(|vector| vector.file.len()).collect();
+    for length in [65_536, 65_537, 65_551, 65_552, 65_553, 65_567] {
+        assert!(lengths.contains(&length));
+    }
+    let mut answered = Vec::new();
+    for vector in &vectors {
+        let given = record_answers(&vector.file, &vector.presets);
+        let near = |&(record, _): &(usize, Answer)| (END - 2..END + 3).contains(&record);
+        answered.extend(given.into_iter().enumerate().filter(near));
+    }
+    for number in [3, 4, 5, 6, 7, 8, 11] {
+        assert!(answered.iter().any(|&(_, answer)| answer == Answer::Refused(number)));
+    }
+    for record in END - 2..END + 3 {
+        assert!(answered.iter().any(|&(r, answer)| r == record && matches!(answer, Answer::Refused(_))));
+    }
+    for record in [END - 1, END] {
+        assert!(answered.contains(&(record, Answer::Elapsed { ended: true })));
+    }
 }
 
 /// A preset's counter has been counted in its window, and the monitor is enabled there.

@@ -5,13 +5,15 @@
 //! - its vectors. In a group whose name starts with "settings" they are settings vectors, else event vectors.
 //!
 //! An event vector, played on a new monitor, is
-//! - the length of an event file (u32, at most 65,536) and its bytes, also 1 to 15 after the last whole record;
+//! - the length of an event file (u32, at most 131,072) and its bytes, also 1 to 15 after the last whole record;
 //! - the number of presets (u8), and for each a counter number (u8, 0 to 11), a value (u32) and a record number (u32):
 //!   just before that record is read, the counter of the active window is set to the value. Records count from 0, the
 //!   record is a whole one of the file, presets stand in order of it, the counter has been counted in the window, and
 //!   the monitor is enabled;
-//! - the number of refusals (u16), and for each the record number (u32) and the refusal (u8), in order. A refusal by 12
-//!   has the number of whole records;
+//! - the number of answers (u16), and each of them (u16): one for each whole record, and one for the end of the file.
+//!   An answer is 8 x N if refused by N, which is 12 at the end with bytes left over; 1 'done', also at the end with
+//!   none; 2 'not counted'; 3 if counted, with 8 more if the stamp was loaded, 16 more if a debug log was taken, and 32
+//!   x the counter; for elapsed time 4, and 5 if a window ended;
 //! - the length of the buffer lent for the page (u16, at most 4,200) and the refusal (u8), 9 or 0; after 0 follow the
 //!   512 bytes of the page;
 //! - the length of the buffer lent for settings back (u16, at most 4,200) and the refusal (u8), 10 or 0; after 0 follow
@@ -23,11 +25,13 @@
 //! - the refusal (u8), 1 to 6 or 0; after 0 follow bytes 0 to 12 of the settings given back afterwards, and all others
 //!   are zero.
 
-use crate::events::{read, Preset, Refused, RECORD};
+use crate::answers::Answer;
+use crate::events::{read, record_answers, Preset, RECORD};
+use crate::facts::COUNTERS;
 use crate::history::{Call, PAGE_LENGTH};
 use crate::page::{page, settings_back};
 
-pub const LONGEST_FILE: usize = 65_536;
+pub const LONGEST_FILE: usize = 131_072;
 pub const LONGEST_BUFFER: u16 = 4_200;
 
 /// An event file and the lengths of the buffers that are lent after it.
@@ -77,7 +81,7 @@ pub fn write(groups: &[Group]) -> Vec<u8> {
 }
 
 fn write_events(out: &mut Vec<u8>, vector: &EventVector) {
-    let (history, refused) = read(&vector.file, &vector.presets);
+    let (history, _) = read(&vector.file, &vector.presets);
     out.extend((vector.file.len() as u32).to_le_bytes());
     out.extend(&vector.file);
     out.push(vector.presets.len() as u8);
@@ -86,15 +90,27 @@ fn write_events(out: &mut Vec<u8>, vector: &EventVector) {
         out.extend(preset.value.to_le_bytes());
         out.extend(preset.record.to_le_bytes());
     }
-    out.extend((refused.len() as u16).to_le_bytes());
-    for Refused { record, number } in refused {
-        out.extend(record.to_le_bytes());
-        out.push(number);
-    }
+    let mut answers = record_answers(&vector.file, &vector.presets);
+    answers.push(if vector.file.len() % RECORD == 0 { Answer::Done } else { Answer::Refused(12) });
+    out.extend((answers.len() as u16).to_le_bytes());
+    answers.iter().for_each(|&answer| out.extend(coded(answer).to_le_bytes()));
     out.extend(vector.page_buffer.to_le_bytes());
     write_answer(out, &page(&history, vector.page_buffer.into()));
     out.extend(vector.back_buffer.to_le_bytes());
     write_answer(out, &settings_back(&history, vector.back_buffer.into()));
+}
+
+/// An answer as a number.
+pub fn coded(answer: Answer) -> u16 {
+    match answer {
+        Answer::Refused(number) => 8 * u16::from(number),
+        Answer::Done => 1,
+        Answer::NotCounted => 2,
+        Answer::Counted { counter, loaded, debug } => {
+            3 + 8 * u16::from(loaded) + 16 * u16::from(debug) + 32 * counter as u16
+        }
+        Answer::Elapsed { ended } => 4 + u16::from(ended),
+    }
 }
 
 fn write_settings(out: &mut Vec<u8>, vector: &SettingsVector) {
@@ -169,25 +185,35 @@ fn check_events(reader: &mut Reader) -> Result<(), String> {
         }
         earliest = record;
     }
-    let mut earliest = 0;
-    for _ in 0..reader.u16()? {
-        let (record, number) = (reader.u32()?, reader.u8()?);
-        let fits = match number {
-            3..=8 | 11 => record < records,
-            12 => record == records && length % RECORD != 0,
-            _ => false,
-        };
-        if !fits || record < earliest {
-            return reader.wrong("a refusal out of place");
-        }
-        earliest = record + 1;
+    check_answers(reader, records, length % RECORD != 0)?;
+    check_buffer(reader, PAGE_LENGTH, 9, PAGE_LENGTH)?;
+    check_buffer(reader, 4096, 10, 13)
+}
+
+/// An answer for each record, and one for the end.
+fn check_answers(reader: &mut Reader, records: u32, left_over: bool) -> Result<(), String> {
+    if u32::from(reader.u16()?) != records + 1 {
+        return reader.wrong("not an answer for each record and the end");
     }
-    check_answer(reader, PAGE_LENGTH, 9, PAGE_LENGTH)?;
-    check_answer(reader, 4096, 10, 13)
+    for _ in 0..records {
+        let answer = reader.u16()?;
+        let fits = match answer % 8 {
+            0 => matches!(answer / 8, 3..=8 | 11),
+            3 => usize::from(answer / 32) < COUNTERS,
+            _ => matches!(answer, 1 | 2 | 4 | 5),
+        };
+        if !fits {
+            return reader.wrong("an answer that no record has");
+        }
+    }
+    if reader.u16()? != if left_over { 8 * 12 } else { 1 } {
+        return reader.wrong("the answer at the end");
+    }
+    Ok(())
 }
 
 /// A buffer's length and the refusal, which is due exactly when the length is not the right one, or so many bytes.
-fn check_answer(reader: &mut Reader, right: usize, number: u8, bytes: usize) -> Result<(), String> {
+fn check_buffer(reader: &mut Reader, right: usize, number: u8, bytes: usize) -> Result<(), String> {
     let length = reader.u16()?;
     let refusal = reader.u8()?;
     let due = if usize::from(length) == right { 0 } else { number };

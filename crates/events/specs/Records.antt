@@ -9,9 +9,11 @@ use Rattle.endian.specs.Bytes.{anySet}
 use Rattle.endian.specs.Loads.{number}
 use Rattle.monitor.specs.declared.commands.Command.{Command}
 use Rattle.monitor.specs.declared.record.Monitor.{Monitor}
-use Rattle.monitor.specs.Answers.{CallAnswer, refused, done, unlessRefused}
+use Rattle.monitor.specs.Answers.{CallAnswer, refused, done, notCounted, counted, ended}
 use Rattle.monitor.specs.History.{Call, settings, completion, elapsed, clock, powerUp, History, playFrom, refusalOf}
-use Rattle.monitor.specs.History.{found, andThen, orElse}
+use Rattle.monitor.specs.History.{answerOf, found, andThen, orElse}
+use Rattle.events.specs.declared.answers.RecordAnswer.{RecordAnswer}
+use Rattle.events.specs.declared.answers.RecordAnswer.the-variants as answer
 use Rattle.events.specs.declared.files.Halt.{Halt}
 use Rattle.events.specs.declared.files.Halt.the-variants as halt
 
@@ -73,8 +75,17 @@ isElapsed = isKind 3 1 4 8
 unfoldable pub recordRefusal : List ℕ → Option ℕ
 recordRefusal r = found (some 11) refusalOf (callOf r)
 
-unfoldable pub recordAnswer : List ℕ → CallAnswer
-recordAnswer r = unlessRefused (recordRefusal r) done
+-- what a record answers on a monitor: its call's own answer, or 11 (document 01, Where a call is turned away)
+unfoldable pub recordAnswer : Monitor → List ℕ → CallAnswer
+recordAnswer m r = found (refused 11) (answerOf m) (callOf r)
+
+-- what the code's cases say, in the answers that document 01 names for a completion, for time and for the others
+abbrev pub saysRecord : RecordAnswer → CallAnswer
+saysRecord (answer.Refused n) = refused n
+saysRecord answer.Done = done
+saysRecord answer.NotCounted = notCounted
+saysRecord (answer.Counted n loaded debug) = counted n loaded debug
+saysRecord (answer.Ended e) = ended e
 
 -- what a record leaves of a monitor
 unfoldable pub afterRecord : Monitor → List ℕ → Monitor

@@ -3,13 +3,13 @@ ghost use mathlib.Core.Path.{_≡_};
 ghost use mathlib.Core.Option.{some};
 ghost use Rattle.monitor.specs.Answers.{saysAnswer, unlessRefused, done};
 ghost use Rattle.monitor.specs.History.{playFrom};
-ghost use Rattle.events.specs.Records.{afterRecord, recordAnswer, callsBefore, historyOf, firstRefused};
+ghost use Rattle.events.specs.Records.{callsBefore, historyOf, firstRefused};
 ghost use Rattle.events.specs.Records.{acceptedRecords, refusalAt, saysHalt, endRefusal};
 use crate::records;
 use monitor::Answer;
+use monitor::ElapsedAnswer;
 use monitor::Monitor;
 use monitor::NOT_COUNTED;
-use monitor::Outcome;
 
 // Why a run stopped: at a refused record, with its number from 0 and the refusal, or at the end.
 pub enum Halt {
@@ -57,7 +57,7 @@ pub fn run(m: Monitor, s: &[u8]) -> Stop
             let o = records::elapsed(monitor, r);
             monitor = o.next;
             let answer = o.answer;
-            if let Answer::Refused(number) = answer {
+            if let ElapsedAnswer::Refused(number) = answer {
                 return refused_at(monitor, i, number);
             }
             i += 1;
@@ -73,31 +73,6 @@ pub fn run(m: Monitor, s: &[u8]) -> Stop
     }
     let halt = Halt::End;
     Stop { monitor, halt }
-}
-
-// One record.
-pub fn apply(m: Monitor, r: &[u8]) -> Outcome
-    ensures next { λ o. ⌜ o .next ≡ afterRecord m (now (r .entry)) ⌝ }
-    ensures answer { λ o. ⌜ saysAnswer (o .answer) ≡ recordAnswer (now (r .entry)) ⌝ }
-{
-    if r.len() == records::RECORD {
-        let stop = run(m, r);
-        let next = stop.monitor;
-        let halt = stop.halt;
-        match halt {
-            Halt::Refused { index: _, number } => {
-                let answer = Answer::Refused(number);
-                Outcome { next, answer }
-            }
-            Halt::End => {
-                let answer = Answer::Done;
-                Outcome { next, answer }
-            }
-        }
-    } else {
-        let answer = Answer::Refused(records::UNKNOWN_RECORD);
-        Outcome { next: m, answer }
-    }
 }
 
 // All whole records of a slice; those that are refused are passed over.

@@ -1,14 +1,17 @@
 // Event files: records of 16 bytes, the calls that they stand for, and what these make of a monitor.
+mod answers;
 mod blocks;
 mod files;
 mod records;
 
+pub use answers::RecordAnswer;
+pub use answers::RecordOutcome;
+pub use answers::apply;
 pub use blocks::Block;
 pub use blocks::end_line;
 pub use blocks::replay_block;
 pub use files::Halt;
 pub use files::Stop;
-pub use files::apply;
 pub use files::left_over;
 pub use files::replay;
 pub use files::run;

@@ -4,13 +4,13 @@ ghost use mathlib.Core.Bool.{true, false, not};
 ghost use Prim.Native.Nat.{_+_, _≤_, _<_};
 ghost use lib.ListN.{length, replicate};
 ghost use Rattle.endian.specs.Bytes.{anySet};
-ghost use Rattle.monitor.specs.Answers.{saysAnswer, refused};
+ghost use Rattle.monitor.specs.Answers.{saysAnswer, saysElapsed, refused};
 ghost use Rattle.monitor.specs.Record.{afterSettings, settingsAnswer};
 ghost use Rattle.events.specs.Records.{unnamed, settingsBytes, commandOf, isKind, isCompletion, isElapsed};
 ghost use Rattle.events.specs.Records.{afterRecord, recordAnswer};
 use monitor::Answer;
 use monitor::Command;
-use monitor::ElapsedAnswer;
+use monitor::ElapsedOutcome;
 use monitor::Monitor;
 use monitor::Outcome;
 
@@ -114,28 +114,12 @@ fn configured(m: Monitor, r: &[u8]) -> Outcome
 }
 
 // The record's elapsed time, brought to the monitor.
-pub(crate) fn elapsed(m: Monitor, r: &[u8]) -> Outcome
+pub(crate) fn elapsed(m: Monitor, r: &[u8]) -> ElapsedOutcome
     requires { ⌜ (length (now r) ≡ 16) × (isElapsed (now r) ≡ true) ⌝ }
     ensures next { λ o. ⌜ o .next ≡ afterRecord m (now (r .entry)) ⌝ }
-    ensures answer { λ o. ⌜ saysAnswer (o .answer) ≡ recordAnswer (now (r .entry)) ⌝ }
+    ensures answer { λ o. ⌜ saysElapsed (o .answer) ≡ recordAnswer m (now (r .entry)) ⌝ }
 {
-    let o = m.elapsed(endian::load(&r[4..8]) as u32);
-    let next = o.next;
-    let a = o.answer;
-    match a {
-        ElapsedAnswer::Refused(n) => {
-            let answer = Answer::Refused(n);
-            Outcome { next, answer }
-        }
-        ElapsedAnswer::Active => {
-            let answer = Answer::Done;
-            Outcome { next, answer }
-        }
-        ElapsedAnswer::Ended => {
-            let answer = Answer::Done;
-            Outcome { next, answer }
-        }
-    }
+    m.elapsed(endian::load(&r[4..8]) as u32)
 }
 
 // No call.
@@ -151,7 +135,7 @@ fn unknown(m: Monitor) -> Outcome
 pub(crate) fn other(m: Monitor, r: &[u8]) -> Outcome
     requires { ⌜ (length (now r) ≡ 16) × (isCompletion (now r) ≡ false) × (isElapsed (now r) ≡ false) ⌝ }
     ensures next { λ o. ⌜ o .next ≡ afterRecord m (now (r .entry)) ⌝ }
-    ensures answer { λ o. ⌜ saysAnswer (o .answer) ≡ recordAnswer (now (r .entry)) ⌝ }
+    ensures answer { λ o. ⌜ saysAnswer (o .answer) ≡ recordAnswer m (now (r .entry)) ⌝ }
 {
     let kind = r[0];
     match kind {

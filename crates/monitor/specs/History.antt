@@ -5,10 +5,12 @@ use mathlib.Core.Option.{Option, none, some}
 use Prim.Native.Nat.{ℕ, _<_}
 use Rattle.monitor.specs.declared.commands.Command.{Command}
 use Rattle.monitor.specs.declared.record.Monitor.{Monitor}
+use Rattle.monitor.specs.Answers.{CallAnswer, done}
 use Rattle.monitor.specs.Record.{newMonitor, afterSettings, afterCompletion, afterElapsed, afterClock}
-use Rattle.monitor.specs.Record.{afterPowerUp}
+use Rattle.monitor.specs.Record.{afterPowerUp, settingsAnswer, completionAnswer, elapsedAnswer, clockAnswer}
 use Rattle.monitor.specs.Refusals.{settingsRefusal, elapsedRefusal, clockRefusal, pageRefusal}
 use Rattle.monitor.specs.Refusals.{settingsBackRefusal}
+use Rattle.monitor.specs.Report.{pageAnswer, settingsBackAnswer}
 
 -- 01, The facts of a history: a call with what it is given; of a lent buffer only the length matters
 pub data Call : Type 0 where
@@ -33,6 +35,16 @@ after (clock value) m = afterClock m value
 after powerUp m = afterPowerUp m
 after (page n) m = m
 after (settingsBack n) m = m
+
+-- what a call answers on a record, by the call's own definition (document 01, each call's section)
+abbrev pub answerOf : Monitor → Call → CallAnswer
+answerOf m (settings s) = settingsAnswer s
+answerOf m (completion c) = completionAnswer m c
+answerOf m (elapsed ms) = elapsedAnswer m ms
+answerOf m (clock value) = clockAnswer value
+answerOf m powerUp = done
+answerOf m (page n) = pageAnswer n
+answerOf m (settingsBack n) = settingsBackAnswer n
 
 -- the record that a history leaves of another
 unfoldable pub playFrom : Monitor → History → Monitor

@@ -1,6 +1,8 @@
-// The product's answers on lent buffers, held against the expected ones.
+// The product's answers, and what it leaves in lent buffers, held against what is expected.
 ghost use mathlib.Core.Path.{_≡_};
+ghost use Prim.Native.Nat.{_≤_};
 ghost use lib.ListN.{length};
+use events::RecordAnswer;
 use monitor::Answer;
 use monitor::Monitor;
 
@@ -9,6 +11,28 @@ const LENT: u8 = 165;
 
 // The longest buffer that a vector lends.
 pub const LONGEST: usize = 4200;
+
+// A bit of a number, if it is set.
+fn bit(set: bool, value: u32) -> u32
+    ensures { λ r. ⌜ r ≤ value ⌝ }
+{
+    if set { value } else { 0 }
+}
+
+// A record's answer as a number: reference/src/vectors.rs has the table.
+pub fn coded(a: RecordAnswer) -> u32 {
+    match a {
+        RecordAnswer::Refused(number) => 8 * (number as u32),
+        RecordAnswer::Done => 1,
+        RecordAnswer::NotCounted => 2,
+        RecordAnswer::Counted {
+            counter,
+            loaded,
+            debug,
+        } => 3 + bit(loaded, 8) + bit(debug, 16) + 32 * (counter as u32),
+        RecordAnswer::Ended(ended) => 4 + bit(ended, 1),
+    }
+}
 
 // A buffer to lend from.
 fn lent() -> [u8; LONGEST]

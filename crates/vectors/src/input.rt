@@ -1,10 +1,22 @@
 // The file of vectors, read from standard input part by part. reference/src/vectors.rs describes it.
+ghost use mathlib.Core.Path.{_≡_};
 ghost use Prim.Native.Nat.{_≤_, _<_};
+ghost use lib.ListN.{length};
+
+// The longest event file of a vector.
+const LONGEST_FILE: usize = 131072;
 
 // What a part of the file said; nothing, where the input ended before it or it does not fit.
 pub enum Part {
     Read(usize),
     Missing,
+}
+
+// A buffer for an event file.
+pub fn file_buffer() -> [u8; LONGEST_FILE]
+    ensures { λ r. ⌜ 131072 ≡ length r ⌝ }
+{
+    [0; LONGEST_FILE]
 }
 
 // Fills a buffer, and says whether the input had so many bytes.

@@ -1,25 +1,22 @@
-// An event file, played on a new monitor. Each refusal is held against the expected one.
+// An event file, played on a new monitor in two ways: as a whole, and record by record, where each answer is held
+// against the expected one.
 ghost use mathlib.Core.Path.{_≡_};
-ghost use Prim.Native.Nat.{_≤_};
 ghost use lib.ListN.{length};
-use events::Halt;
+use crate::compare;
+use events::RecordAnswer;
 use monitor::Answer;
 use monitor::Monitor;
 
-// The bytes of a record, of a preset and of an expected refusal.
+// The bytes of a record, of a preset and of an expected answer.
 const RECORD: usize = 16;
 
 const PRESET: usize = 9;
 
-const REFUSAL: usize = 5;
+const ANSWER: usize = 2;
 
 pub struct Played {
     pub monitor: Monitor,
-    // The number of the next record.
-    next: usize,
-    // The refusals so far.
-    refused: usize,
-    // Whether each was the expected one.
+    // Whether each answer was the expected one.
     pub agrees: bool,
 }
 
@@ -28,106 +25,94 @@ fn number(s: &[u8]) -> u32 {
     (endian::load(s) % 4_294_967_296) as u32
 }
 
-// A refusal, which agrees where the next expected one has the same record and number.
-fn refused(mut p: Played, refusals: &[u8], record: usize, refusal: u8) -> Played {
-    let k = p.refused;
-    if k < refusals.len() / REFUSAL {
-        let at = REFUSAL * k;
-        if number(&refusals[at..at + 4]) as usize == record {
-            if refusals[at + 4] == refusal {
-                p.refused = k + 1;
-                return p;
-            }
-        }
-    }
-    p.agrees = false;
-    p
-}
-
-// The record that a run from record `from` stopped at, which is before record `to`.
-fn stopped(from: usize, index: usize, to: usize) -> usize
-    requires { ⌜ from ≤ to ⌝ }
-    ensures { λ r. ⌜ (from ≤ r) × (r ≤ to) ⌝ }
-{
-    if index < to - from { from + index } else { to }
-}
-
-// The records of a file from the next one up to another.
-fn records(mut p: Played, file: &[u8], to: usize, refusals: &[u8]) -> Played {
+// The records of a file from one number up to another; none, where the file has not so many.
+fn part(file: &[u8], from: usize, to: usize) -> &[u8] {
     if file.len() / RECORD < to {
-        p.agrees = false;
-        return p;
+        &file[0..0]
+    } else if to < from {
+        &file[0..0]
+    } else {
+        &file[RECORD * from..RECORD * to]
     }
-    let mut i = p.next;
-    while i < to {
-        let m = p.monitor;
-        let stop = events::run(m, &file[RECORD * i..RECORD * to]);
-        let monitor = stop.monitor;
-        p.monitor = monitor;
-        let halt = stop.halt;
-        match halt {
-            Halt::Refused { index, number } => {
-                let record = stopped(i, index, to);
-                i = record + 1;
-                p = refused(p, refusals, record, number);
-            }
-            Halt::End => {
-                i = to;
-            }
-        }
-    }
-    p.next = to;
-    p
 }
 
-// A preset: the records before its own, and then a counter of the active window set to a value.
-fn preset(start: Played, file: &[u8], s: &[u8], refusals: &[u8]) -> Played
+// A preset: a counter of the active window set to a value.
+fn preset(mut m: Monitor, s: &[u8]) -> Monitor
     requires { ⌜ length (now s) ≡ 9 ⌝ }
 {
-    let mut p = records(start, file, number(&s[5..9]) as usize, refusals);
     let counter = number(&s[0..1]) as usize;
     if counter < 12 {
-        let mut m = p.monitor;
         let mut w = m.active_window;
         w.counters[counter] = number(&s[1..5]);
         m.active_window = w;
-        p.monitor = m;
-    } else {
-        p.agrees = false;
     }
-    p
+    m
 }
 
-// The records after the last preset, and what is left over at the end of the file.
-fn finish(start: Played, file: &[u8], refusals: &[u8]) -> Played {
-    let whole = file.len() / RECORD;
-    let mut p = records(start, file, whole, refusals);
-    match events::left_over(file.len()) {
-        Answer::Refused(number) => {
-            p = refused(p, refusals, whole, number);
-        }
-        Answer::Done => {}
-    }
-    if p.refused < refusals.len() / REFUSAL {
-        p.agrees = false;
-    }
-    p
-}
-
-// A whole file, with its presets.
-pub fn play(file: &[u8], presets: &[u8], refusals: &[u8]) -> Played {
-    let monitor = Monitor::new();
-    let mut p = Played {
-        monitor,
-        next: 0,
-        refused: 0,
-        agrees: true,
-    };
+// The presets that stand before a record.
+fn with_presets(mut m: Monitor, presets: &[u8], record: usize) -> Monitor {
     let mut k = 0;
     while k < presets.len() / PRESET {
         let at = PRESET * k;
-        p = preset(p, file, &presets[at..at + PRESET], refusals);
+        let s = &presets[at..at + PRESET];
+        if number(&s[5..9]) as usize == record {
+            m = preset(m, s);
+        }
         k += 1;
     }
-    finish(p, file, refusals)
+    m
+}
+
+// The whole file, in parts where presets stand between them.
+pub fn replayed(file: &[u8], presets: &[u8]) -> Monitor {
+    let mut m = Monitor::new();
+    let mut from = 0;
+    let mut k = 0;
+    while k < presets.len() / PRESET {
+        let at = PRESET * k;
+        let s = &presets[at..at + PRESET];
+        let to = number(&s[5..9]) as usize;
+        let before = events::replay(m, part(file, from, to));
+        m = preset(before, s);
+        from = to;
+        k += 1;
+    }
+    events::replay(m, part(file, from, file.len() / RECORD))
+}
+
+// The answer at the end of a file of so many bytes.
+fn at_end(n: usize) -> RecordAnswer {
+    match events::left_over(n) {
+        Answer::Refused(number) => RecordAnswer::Refused(number),
+        Answer::Done => RecordAnswer::Done,
+    }
+}
+
+// Whether an answer is the expected one with this number.
+fn is_expected(a: RecordAnswer, answers: &[u8], i: usize) -> bool {
+    if i < answers.len() / ANSWER {
+        let at = ANSWER * i;
+        compare::coded(a) == endian::word(answers[at], answers[at + 1]) as u32
+    } else {
+        false
+    }
+}
+
+// The records one by one, and the end of the file.
+pub fn answered(file: &[u8], presets: &[u8], answers: &[u8]) -> Played {
+    let whole = file.len() / RECORD;
+    let mut monitor = Monitor::new();
+    let mut agrees = is_expected(at_end(file.len()), answers, whole);
+    let mut i = 0;
+    while i < whole {
+        let m = with_presets(monitor, presets, i);
+        let o = events::apply(m, part(file, i, i + 1));
+        monitor = o.next;
+        let answer = o.answer;
+        if !is_expected(answer, answers, i) {
+            agrees = false;
+        }
+        i += 1;
+    }
+    Played { monitor, agrees }
 }

@@ -35,8 +35,8 @@ fn both(a: Verdict, b: Verdict) -> Verdict {
     }
 }
 
-// The page that a monitor shows, into the buffer of the vector.
-fn page(m: Monitor) -> Verdict {
+// The page that both monitors show, into the buffer of the vector.
+fn page(m: Monitor, single: Monitor) -> Verdict {
     let Part::Read(n) = input::number(2) else {
         return Verdict::Unread;
     };
@@ -44,11 +44,13 @@ fn page(m: Monitor) -> Verdict {
     let Part::Read(refusal) = input::answer(&mut bytes) else {
         return Verdict::Unread;
     };
-    judged(compare::page(m, n, refusal, &bytes))
+    let as_a_whole = judged(compare::page(m, n, refusal, &bytes));
+    let by_records = judged(compare::page(single, n, refusal, &bytes));
+    both(as_a_whole, by_records)
 }
 
-// The settings that a monitor gives back, into the buffer of the vector.
-fn settings_back(m: Monitor) -> Verdict {
+// The settings that both monitors give back, into the buffer of the vector.
+fn settings_back(m: Monitor, single: Monitor) -> Verdict {
     let Part::Read(n) = input::number(2) else {
         return Verdict::Unread;
     };
@@ -56,12 +58,14 @@ fn settings_back(m: Monitor) -> Verdict {
     let Part::Read(refusal) = input::answer(&mut bytes) else {
         return Verdict::Unread;
     };
-    judged(compare::settings_back(m, n, refusal, &bytes))
+    let as_a_whole = judged(compare::settings_back(m, n, refusal, &bytes));
+    let by_records = judged(compare::settings_back(single, n, refusal, &bytes));
+    both(as_a_whole, by_records)
 }
 
 // An event vector.
 fn events() -> Verdict {
-    let mut file = io::large_buffer();
+    let mut file = input::file_buffer();
     let Part::Read(bytes) = input::list(4, 1, &mut file) else {
         return Verdict::Unread;
     };
@@ -69,20 +73,19 @@ fn events() -> Verdict {
     let Part::Read(preset_bytes) = input::list(1, 9, &mut presets) else {
         return Verdict::Unread;
     };
-    let mut refusals = io::large_buffer();
-    let Part::Read(refusal_bytes) = input::list(2, 5, &mut refusals) else {
+    let mut answers = io::large_buffer();
+    let Part::Read(answer_bytes) = input::list(2, 2, &mut answers) else {
         return Verdict::Unread;
     };
-    let p = play::play(
-        input::first(&file, bytes),
-        input::first(&presets, preset_bytes),
-        input::first(&refusals, refusal_bytes),
-    );
-    let m = p.monitor;
-    let refused = judged(p.agrees);
-    let shown = page(m);
-    let given = settings_back(m);
-    both(refused, both(shown, given))
+    let records = input::first(&file, bytes);
+    let before = input::first(&presets, preset_bytes);
+    let m = play::replayed(records, before);
+    let a = play::answered(records, before, input::first(&answers, answer_bytes));
+    let single = a.monitor;
+    let answered = judged(a.agrees);
+    let shown = page(m, single);
+    let given = settings_back(m, single);
+    both(answered, both(shown, given))
 }
 
 // Puts bytes into settings, each at its place. Whether all places were there.

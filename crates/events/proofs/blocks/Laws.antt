@@ -17,7 +17,7 @@ use Rattle.text.specs.Stored.{Stored}
 use Rattle.events.specs.Blocks.{recordLine, linesFrom, refusedLines, withRoom, endLine}
 use Rattle.events.specs.Records.{Refusal, refusalAt, firstRefusedFrom, firstRefused, recordAt, recordRefusal}
 use Rattle.events.specs.Records.{wholeRecords, endRefusal}
-use Rattle.events.proofs.files.Laws.{rest-record, not-refused, refused-by}
+use Rattle.events.proofs.files.Laws.{rest-record}
 
 -- a line that is copied to a part of the output
 pub line-text : (line : Line) (t : List ℕ) → line ≡ asLine t → take (line .len) (line .bytes) ≡ t
@@ -183,7 +183,15 @@ in-output first s before after took t =
       within = omega (arith, t .within, has-room s (length before));
     }
 
--- the end of the input
+-- the end of the input: an answer says whether there was a refusal, and which
+not-refused : (o : Option ℕ) → done ≡ unlessRefused o done → o ≡ none
+not-refused none e = refl
+not-refused (some n) e = cc
+
+refused-by : (o : Option ℕ) (n : ℕ) → refused n ≡ unlessRefused o done → o ≡ some n
+refused-by none n e = cc
+refused-by (some k) n e = cc
+
 pub some-line :
     (line : Line) (records n refusal : ℕ) →
     line ≡ asLine (refusedLine (records ∷ refusal ∷ [])) →

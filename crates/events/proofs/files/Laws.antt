@@ -14,20 +14,9 @@ use Rattle.monitor.specs.Answers.{refused, done, unlessRefused}
 use Rattle.monitor.specs.History.{Call, settings, completion, elapsed, clock, powerUp, page, settingsBack, History}
 use Rattle.monitor.specs.History.{after, playFrom, refusalOf, found, andThen, orElse}
 use Rattle.monitor.specs.Record.{afterSettings, afterElapsed, afterClock}
-use Rattle.events.proofs.records.Laws.{Made}
-use Rattle.events.specs.Records.{endRefusal, callOf, recordRefusal, recordAnswer, afterRecord, recordAt}
-use Rattle.events.specs.Records.{wholeRecords}
+use Rattle.events.specs.Records.{endRefusal, callOf, recordRefusal, afterRecord, recordAt, wholeRecords}
 use Rattle.events.specs.Records.{callsBefore, historyOf}
 use Rattle.events.specs.Records.{Refusal, refusalAt, firstRefusedFrom, firstRefused, acceptedRecords}
-
--- an answer says whether there was a refusal, and which
-pub not-refused : (o : Option ℕ) → done ≡ unlessRefused o done → o ≡ none
-not-refused none e = refl
-not-refused (some n) e = cc
-
-pub refused-by : (o : Option ℕ) (n : ℕ) → refused n ≡ unlessRefused o done → o ≡ some n
-refused-by none n e = cc
-refused-by (some k) n e = cc
 
 -- a refused record leaves the monitor untouched
 untouched-by : (c : Call) (m : Monitor) (n : ℕ) → refusalOf c ≡ some n → after c m ≡ m
@@ -37,8 +26,8 @@ untouched-by (completion c) m n e = cc
 untouched-by (elapsed ms) m n e = rw e
 untouched-by (clock value) m n e = rw e
 untouched-by powerUp m n e = cc
-untouched-by (page length) m n e = refl
-untouched-by (settingsBack length) m n e = refl
+untouched-by (page k) m n e = refl
+untouched-by (settingsBack k) m n e = refl
 
 pub untouched : (m : Monitor) (r : List ℕ) (n : ℕ) → recordRefusal r ≡ some n → afterRecord m r ≡ m
 unfolding recordRefusal afterRecord playFrom
@@ -103,12 +92,12 @@ module _ (m : Monitor) (s : List ℕ) where
         Ran m s monitor i →
         r ≡ recordAt s i →
         next ≡ afterRecord monitor r →
-        done ≡ recordAnswer r →
+        recordRefusal r ≡ none →
         i < wholeRecords s →
         Ran m s next (i + 1)
-    unfolding callsBefore afterRecord recordAnswer
-    went-on (le, played, rest) er en ed h =
-        let here : recordRefusal (recordAt s i) ≡ none = rw er at (not-refused (recordRefusal r) ed) in
+    unfolding callsBefore afterRecord
+    went-on (le, played, rest) er en accepted h =
+        let here : recordRefusal (recordAt s i) ≡ none = rw er at accepted in
         let more : wholeRecords s - i ≡ suc (wholeRecords s - suc i) = omega arith in
         rw (add-one i) (
           omega arith,
@@ -122,12 +111,11 @@ module _ (m : Monitor) (s : List ℕ) where
         Ran m s monitor i →
         r ≡ recordAt s i →
         next ≡ afterRecord monitor r →
-        refused n ≡ recordAnswer r →
+        recordRefusal r ≡ some n →
         i < wholeRecords s →
         Stopped m s next (refusalAt i (some n))
-    unfolding acceptedRecords recordAnswer
-    stopped n (le, played, rest) er en ed h =
-        let refusal : recordRefusal r ≡ some n = refused-by (recordRefusal r) n ed in
+    unfolding acceptedRecords
+    stopped n (le, played, rest) er en refusal h =
         let here : recordRefusal (recordAt s i) ≡ some n = rw er at refusal in
         let more : wholeRecords s - i ≡ suc (wholeRecords s - suc i) = omega arith in
         let first : firstRefused s ≡ refusalAt i (some n) =
@@ -143,57 +131,6 @@ module _ (m : Monitor) (s : List ℕ) where
       let none-left : wholeRecords s - i ≡ 0 = omega arith in
       let first : firstRefused s ≡ none = sym (rw none-left at rest) in
       (rw (first, ← all) played, sym first)
-
--- a file of one record
-which : (o : Option ℕ) (p : Refusal) → some p ≡ refusalAt 0 o → o ≡ some (p .number)
-which none p e = cc
-which (some k) p e =
-    let same : p .number ≡ k = ap (found 0 (λ (x : Refusal). x .number)) e in
-    ap some (sym same)
-
-at-zero : (o : Option ℕ) (p : Refusal) → some p ≡ refusalAt 0 o → p .index ≡ 0
-at-zero none p e = cc
-at-zero (some k) p e = ap (found 0 (λ (x : Refusal). x .index)) e
-
-no-refusal : (o : Option ℕ) → none ≡ refusalAt 0 o → o ≡ none
-no-refusal none e = refl
-no-refusal (some k) e = cc
-
-module _ (m : Monitor) (r : List ℕ) (next : Monitor) (long : length r ≡ 16) where
-  itself : recordAt r 0 ≡ r
-  itself = take-all 16 r (omega arith)
-
-  only : firstRefused r ≡ refusalAt 0 (recordRefusal r)
-  unfolding firstRefused firstRefusedFrom
-  only =
-      let one : wholeRecords r ≡ 1 = omega arith in
-      rw (one, itself) (by (recordRefusal r))
-    where
-      by : (o : Option ℕ) → orElse (refusalAt 0 o) none ≡ refusalAt 0 o
-      by none = refl
-      by (some k) = refl
-
-  pub refused-alone :
-      (p : Refusal) →
-      next ≡ playFrom m (callsBefore r (acceptedRecords r)) →
-      some p ≡ firstRefused r →
-      Made m r next (refused (p .number))
-  unfolding acceptedRecords callsBefore playFrom recordAnswer
-  refused-alone p en h =
-      let refusal : recordRefusal r ≡ some (p .number) = which (recordRefusal r) p (h ∙ only) in
-      let first : acceptedRecords r ≡ 0 = rw (← h) (at-zero (recordRefusal r) p (h ∙ only)) in
-      ((rw first at en) ∙ sym (untouched m r (p .number) refusal), rw refusal)
-
-  pub accepted-alone :
-      next ≡ playFrom m (callsBefore r (acceptedRecords r)) →
-      none ≡ firstRefused r →
-      Made m r next done
-  unfolding acceptedRecords callsBefore afterRecord recordAnswer
-  accepted-alone en h =
-      let refusal : recordRefusal r ≡ none = no-refusal (recordRefusal r) (h ∙ only) in
-      let one : wholeRecords r ≡ 1 = omega arith in
-      let all : acceptedRecords r ≡ 1 = rw (← h) one in
-      (rw itself at (rw all at en), rw refusal)
 
 -- what the first refused record is
 abbrev pub Found : List ℕ → (i n : ℕ) → Refusal → Type 0

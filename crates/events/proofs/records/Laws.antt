@@ -1,7 +1,8 @@
 -- Laws of one record.
 use mathlib.Core.Path.{_≡_, refl, sym, ap, _∙_}
 use mathlib.Core.Bool.{Bool, true, false, cond, not, _&&_}
-use mathlib.Core.List.{List}
+use mathlib.Core.List.{List, [], _∷_}
+use mathlib.Core.Logic.{⊎-elim}
 use mathlib.Core.Option.{Option, none, some}
 use Prim.Native.Nat.{ℕ, _+_, _-_, _<_, _≤_}
 use native.Mathlib.Nat.{zero-add, add-comm}
@@ -9,20 +10,27 @@ use native.Mathlib.Numerals.{add-one}
 use native.Mathlib.Omega.{arith}
 use borrow.Author.Tests.{eq-eqb, ne-eqb, eqb-true}
 use borrow.Rule.Slice.PartAt.{part-to-end}
+use denote.Enum.Declared.{tagOf}
 use lib.Dec.{eqb}
 use lib.ListN.{length, getD, set, take, drop, replicate, length-take, length-drop, length-replicate}
 use lib.Seq.{take-all, getD-drop, paste, paste-suc}
+use types.Run.{OneOf}
 use Rattle.endian.specs.Bytes.{anySet}
 use Rattle.endian.specs.Loads.{number}
 use Rattle.endian.proofs.Numbers.{below, both-clear, first-set}
 use Rattle.monitor.proofs.Counters.{no-counter}
+use Rattle.monitor.proofs.answers.ElapsedAnswer.{the-type}
+use Rattle.monitor.specs.declared.answers.ElapsedAnswer.{ElapsedAnswer}
+use Rattle.monitor.specs.declared.answers.ElapsedAnswer.the-variants as time
 use Rattle.monitor.specs.declared.commands.Command.{Command}
 use Rattle.monitor.specs.declared.record.Monitor.{Monitor}
-use Rattle.monitor.specs.Answers.{CallAnswer, refused, done, ended, unlessRefused}
+use Rattle.monitor.specs.Answers.{CallAnswer, refused, done, notCounted, counted, ended, unlessRefused, saysElapsed}
 use Rattle.monitor.specs.Commands.{counterNumber, counterOf}
-use Rattle.monitor.specs.History.{Call, completion, elapsed, clock, after, playFrom, refusalOf}
-use Rattle.monitor.specs.Record.{afterCompletion, elapsedAnswer}
-use Rattle.monitor.specs.Refusals.{elapsedRefusal}
+use Rattle.monitor.specs.History.{Call, settings, completion, elapsed, clock, powerUp, page, settingsBack}
+use Rattle.monitor.specs.History.{after, answerOf, playFrom, refusalOf, found}
+use Rattle.monitor.specs.Record.{afterCompletion, settingsAnswer, completionAnswer, elapsedAnswer, clockAnswer}
+use Rattle.monitor.specs.Refusals.{settingsRefusal, elapsedRefusal, clockRefusal, pageRefusal, settingsBackRefusal}
+use Rattle.monitor.specs.Report.{pageAnswer, settingsBackAnswer}
 use Rattle.events.specs.Records.{recordKind, part, unnamed, settingsBytes, commandOf, elapsedOf, clockOf, callOfKind}
 use Rattle.events.specs.Records.{callOf, isCompletion, isElapsed}
 use Rattle.events.specs.Records.{recordRefusal, recordAnswer, afterRecord}
@@ -88,20 +96,20 @@ thirteen-bytes z r s i ez es e = rw (es, e, ez)
 
 -- what a record's call, or none, makes of the monitor and answers
 abbrev pub Made : Monitor → List ℕ → Monitor → CallAnswer → Type 0
-Made m r next answer = (next ≡ afterRecord m r) × (answer ≡ recordAnswer r)
+Made m r next answer = (next ≡ afterRecord m r) × (answer ≡ recordAnswer m r)
 
 module _ (m : Monitor) (r : List ℕ) (next : Monitor) (answer : CallAnswer) where
   pub stands-for :
       (c : Call) →
       callOf r ≡ some c →
       next ≡ after c m →
-      answer ≡ unlessRefused (refusalOf c) done →
+      answer ≡ answerOf m c →
       Made m r next answer
-  unfolding afterRecord recordAnswer recordRefusal playFrom
+  unfolding afterRecord recordAnswer playFrom
   stands-for c e n a = (rw e n, rw e a)
 
   pub stands-for-none : callOf r ≡ none → next ≡ m → answer ≡ refused 11 → Made m r next answer
-  unfolding afterRecord recordAnswer recordRefusal playFrom
+  unfolding afterRecord recordAnswer playFrom
   stands-for-none e n a = (rw e n, rw e a)
 
 -- the kind and the bytes that it leaves unnamed decide
@@ -166,11 +174,11 @@ module _ (r : List ℕ) (sixteen : length r ≡ 16) where
       by true e false h = (cc, cc)
       by false e clear h = (cc, cc)
 
-  pub completion-call : isCompletion r ≡ true → callOf r ≡ some (completion (commandOf r))
+  pub completion-call : (c : Command) → c ≡ commandOf r → isCompletion r ≡ true → callOf r ≡ some (completion c)
   unfolding callOfKind isCompletion
-  completion-call h =
+  completion-call c e h =
       let is = is-kind 2 (unnamed 2 4 8 r) h in
-      known-call 2 (unnamed 2 4 8 r) (completion (commandOf r)) refl (is .0) (is .1)
+      rw e (known-call 2 (unnamed 2 4 8 r) (completion (commandOf r)) refl (is .0) (is .1))
 
   pub elapsed-call :
       (ms : ℕ) →
@@ -210,39 +218,65 @@ module _ (r : List ℕ) (sixteen : length r ≡ 16) where
       by true false c o h e = cc
       by false u c o h e = e
 
+-- a completion is not refused
+pub completion-accepted : (r : List ℕ) (c : Command) → callOf r ≡ some (completion c) → recordRefusal r ≡ none
+unfolding recordRefusal
+completion-accepted r c e = rw e
+
 -- a completion that counts for nothing leaves the monitor as it was
 pub passed-over :
     (m : Monitor) (r : List ℕ) (c : Command) (n : ℕ) →
-    length r ≡ 16 →
-    isCompletion r ≡ true →
-    c ≡ commandOf r →
+    callOf r ≡ some (completion c) →
     n ≡ counterNumber (counterOf (m .settings) c) →
     n ≡ 12 →
-    Made m r m done
-unfolding afterCompletion
-passed-over m r c n sixteen is e number twelve =
-    let nothing = no-counter (m .settings) c n number (omega arith) in
-    stands-for m r m done (completion (commandOf r)) (completion-call r sixteen is) (rw (rw e at nothing)) refl
+    m ≡ afterRecord m r
+unfolding afterRecord playFrom afterCompletion
+passed-over m r c n e number twelve = rw (e, no-counter (m .settings) c n number (omega arith))
 
--- elapsed time is turned away, or not, whatever becomes of the window
-pub turned-away :
-    (m : Monitor) (ms n : ℕ) →
-    refused n ≡ elapsedAnswer m ms →
-    refused n ≡ unlessRefused (elapsedRefusal ms) done
-unfolding elapsedAnswer
-turned-away m ms n h = by (elapsedRefusal ms) _ h
-  where
-    by : (o : Option ℕ) (e : Bool) → refused n ≡ unlessRefused o (ended e) → refused n ≡ unlessRefused o done
-    by (some k) e h = h
-    by none e h = cc
+-- the refusal that an answer names
+abbrev pub refusalIn : CallAnswer → Option ℕ
+refusalIn (refused n) = some n
+refusalIn done = none
+refusalIn notCounted = none
+refusalIn (counted n loaded debug) = none
+refusalIn (ended e) = none
 
-pub let-through :
-    (m : Monitor) (ms : ℕ) (b : Bool) →
-    ended b ≡ elapsedAnswer m ms →
-    done ≡ unlessRefused (elapsedRefusal ms) done
-unfolding elapsedAnswer
-let-through m ms b h = by (elapsedRefusal ms) _ h
+-- a call's answer names the row that turns it away
+named : (m : Monitor) (c : Call) → refusalIn (answerOf m c) ≡ refusalOf c
+unfolding settingsAnswer completionAnswer elapsedAnswer clockAnswer pageAnswer settingsBackAnswer
+named m c = by c
   where
-    by : (o : Option ℕ) (e : Bool) → ended b ≡ unlessRefused o (ended e) → done ≡ unlessRefused o done
-    by none e h = refl
-    by (some k) e h = cc
+    unless : (o : Option ℕ) (answer : CallAnswer) → refusalIn answer ≡ none → refusalIn (unlessRefused o answer) ≡ o
+    unless none answer e = e
+    unless (some n) answer e = refl
+
+    counts : (c : Command) (o : Option ℕ) → counterOf (m .settings) c ≡ o → refusalIn (completionAnswer m c) ≡ none
+    counts c none e = rw e
+    counts c (some n) e = rw e
+
+    by : (c : Call) → refusalIn (answerOf m c) ≡ refusalOf c
+    by (settings s) = unless (settingsRefusal s) done refl
+    by (completion c) = counts c (counterOf (m .settings) c) refl
+    by (elapsed ms) = unless (elapsedRefusal ms) _ refl
+    by (clock value) = unless (clockRefusal value) done refl
+    by powerUp = refl
+    by (page n) = unless (pageRefusal n) done refl
+    by (settingsBack n) = unless (settingsBackRefusal n) done refl
+
+-- answers to elapsed time other than a refusal name none
+pub let-through : (a : ElapsedAnswer) → OneOf (1 ∷ 2 ∷ []) (tagOf the-type a) → refusalIn (saysElapsed a) ≡ none
+let-through (time.Refused n) h = ⊎-elim (λ w. absurd (omega arith)) (λ w. absurd (omega arith)) h
+let-through time.Active h = refl
+let-through time.Ended h = refl
+
+-- a record's answer names its refusal
+pub refusal-named :
+    (m : Monitor) (r : List ℕ) (answer : CallAnswer) →
+    answer ≡ recordAnswer m r →
+    recordRefusal r ≡ refusalIn answer
+unfolding recordAnswer recordRefusal
+refusal-named m r answer e = rw e (by (callOf r))
+  where
+    by : (o : Option Call) → found (some 11) refusalOf o ≡ refusalIn (found (refused 11) (answerOf m) o)
+    by none = refl
+    by (some c) = sym (named m c)

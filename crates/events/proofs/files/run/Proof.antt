@@ -2,9 +2,10 @@
 use mathlib.Core.Path.{refl, sym, ap, _∙_}
 use Prim.Native.Nat.{_-_}
 use borrow.Author.Needs.{needs}
-use Rattle.monitor.specs.Answers.{saysAnswer}
+use Rattle.monitor.specs.Answers.{saysAnswer, saysElapsed}
 use Rattle.events.specs.Records.{wholeRecords}
-use Rattle.events.proofs.records.Laws.{stands-for, completion-call, passed-over}
+use Rattle.events.proofs.records.Laws.{stands-for, completion-call, completion-accepted, passed-over}
+use Rattle.events.proofs.records.Laws.{refusal-named, let-through}
 use Rattle.events.proofs.files.Laws.{Ran, the-record, sixteen, started, went-on, stopped, ended}
 use Rattle.events.proofs.files.run.Statement.{statement}
 use Rattle.events.proofs.files.run.Tie as tie
@@ -52,14 +53,14 @@ loop-again : tie.Need-loop-again Inv-loop μ-loop
 loop-again c =
     let r = c .before .before .before in
     let l = r .before .before .before .before .before .loop in
-    let made =
-    passed-over _ _ _ _ (sixteen _ (l .i) (search needs))
+    let call =
+    completion-call _ (sixteen _ (l .i) (search needs)) _ (r .command .ensures)
     (sym (r .before .before .is-completion .ensures) ∙ r .before .if1 .taken)
-    (r .command .ensures)
-    (c .before .counter .ensures)
-    (c .if2 .taken)
     in
-    went-on _ _ _ _ (l .i) _ (l .inv) (the-record _ (l .i)) (made .0) (made .1) (search needs)
+    went-on _ _ _ _ (l .i) _ (l .inv) (the-record _ (l .i))
+    (passed-over _ _ _ _ call (c .before .counter .ensures) (c .if2 .taken))
+    (completion-accepted _ _ call)
+    (search needs)
 
 completion-requires : tie.Need-completion-requires Inv-loop μ-loop
 completion-requires c κs = search needs
@@ -75,11 +76,11 @@ loop-again-2 c =
     let r = c .before .before .before .before .before in
     let l = r .before .before .before .before .before .loop in
     let call =
-    completion-call _ (sixteen _ (l .i) (search needs))
+    completion-call _ (sixteen _ (l .i) (search needs)) _ (r .command .ensures)
     (sym (r .before .before .is-completion .ensures) ∙ r .before .if1 .taken)
     in
-    let made = stands-for _ _ _ _ _ call (rw (r .command .ensures) at (c .before .completion .ensures .0)) refl in
-    went-on _ _ _ _ (l .i) _ (l .inv) (the-record _ (l .i)) (made .0) (made .1) (search needs)
+    let made = stands-for _ _ _ _ _ call (c .before .completion .ensures .0) (c .before .completion .ensures .1) in
+    went-on _ _ _ _ (l .i) _ (l .inv) (the-record _ (l .i)) (made .0) (completion-accepted _ _ call) (search needs)
 
 is-elapsed-requires : tie.Need-is-elapsed-requires Inv-loop μ-loop
 is-elapsed-requires c κs = sixteen _ (c .before .before .before .before .loop .i) (search needs)
@@ -102,13 +103,10 @@ returns c =
     let l = o .before .before .before .before .before .before .before .loop in
     let s =
     stopped _ _ _ _ (l .i) _ _ (l .inv) (the-record _ (l .i)) (o .elapsed .ensures .0)
-    (sym (ap saysAnswer (c .before .before .answer .given .1)) ∙ o .elapsed .ensures .1)
+    (refusal-named _ _ _ (sym (ap saysElapsed (c .before .before .answer .given .1)) ∙ o .elapsed .ensures .1))
     (search needs)
     in
     (c .refused-at .ensures .0 ∙ s .0, c .refused-at .ensures .1 ∙ s .1)
-
-enum-told : tie.Need-enum-told Inv-loop μ-loop
-enum-told c = search needs
 
 add-i-3 : tie.Need-add-i-3 Inv-loop μ-loop
 add-i-3 c = search needs
@@ -118,10 +116,10 @@ loop-less-3 c = search needs
 
 loop-again-3 : tie.Need-loop-again-3 Inv-loop μ-loop
 loop-again-3 c =
-    let o = c .before .before .before in
+    let o = c .before .before in
     let l = o .before .before .before .before .before .before .before .loop in
     went-on _ _ _ _ (l .i) _ (l .inv) (the-record _ (l .i)) (o .elapsed .ensures .0)
-    (sym (ap saysAnswer (c .enum-told .given .1)) ∙ o .elapsed .ensures .1)
+    (refusal-named _ _ _ (o .elapsed .ensures .1) ∙ let-through (o .elapsed .result .answer) (c .match .keys2))
     (search needs)
 
 other-requires : tie.Need-other-requires Inv-loop μ-loop
@@ -143,13 +141,13 @@ returns-2 c =
     let l = o .before .before .before .before .before .before .before .loop in
     let s =
     stopped _ _ _ _ (l .i) _ _ (l .inv) (the-record _ (l .i)) (o .other .ensures .0)
-    (sym (ap saysAnswer (c .before .before .answer2 .given .1)) ∙ o .other .ensures .1)
+    (refusal-named _ _ _ (sym (ap saysAnswer (c .before .before .answer2 .given .1)) ∙ o .other .ensures .1))
     (search needs)
     in
     (c .refused-at2 .ensures .0 ∙ s .0, c .refused-at2 .ensures .1 ∙ s .1)
 
-enum-told-2 : tie.Need-enum-told-2 Inv-loop μ-loop
-enum-told-2 c = search needs
+enum-told : tie.Need-enum-told Inv-loop μ-loop
+enum-told c = search needs
 
 add-i-4 : tie.Need-add-i-4 Inv-loop μ-loop
 add-i-4 c = search needs
@@ -162,7 +160,7 @@ loop-again-4 c =
     let o = c .before .before .before in
     let l = o .before .before .before .before .before .before .before .loop in
     went-on _ _ _ _ (l .i) _ (l .inv) (the-record _ (l .i)) (o .other .ensures .0)
-    (sym (ap saysAnswer (c .enum-told2 .given .1)) ∙ o .other .ensures .1)
+    (refusal-named _ _ _ (sym (ap saysAnswer (c .enum-told .given .1)) ∙ o .other .ensures .1))
     (search needs)
 
 returns-3 : tie.Need-returns-3 Inv-loop μ-loop
@@ -195,7 +193,6 @@ run-spec =
     enum-known-answer
     refused-at-requires
     returns
-    enum-told
     add-i-3
     loop-less-3
     loop-again-3
@@ -203,7 +200,7 @@ run-spec =
     enum-known-answer-2
     refused-at-requires-2
     returns-2
-    enum-told-2
+    enum-told
     add-i-4
     loop-less-4
     loop-again-4

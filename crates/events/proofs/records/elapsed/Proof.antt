@@ -1,8 +1,6 @@
--- `elapsed`: what the monitor answered, without what became of the window.
-use mathlib.Core.Path.{sym, ap, _∙_}
+-- `elapsed`: the call that the record stands for.
 use native.Mathlib.Omega.{arith}
-use Rattle.monitor.specs.Answers.{saysElapsed}
-use Rattle.events.proofs.records.Laws.{fits, stands-for, elapsed-call, turned-away, let-through}
+use Rattle.events.proofs.records.Laws.{fits, stands-for, elapsed-call}
 use borrow.Author.Needs.{needs}
 use Rattle.events.proofs.records.elapsed.Statement.{statement}
 use Rattle.events.proofs.records.elapsed.Tie as tie
@@ -30,49 +28,13 @@ cast-elapsed c =
 elapsed-requires : tie.Need-elapsed-requires
 elapsed-requires c κs = search needs
 
-enum-known-a : tie.Need-enum-known-a
-enum-known-a c = search needs
-
-enum-told : tie.Need-enum-told
-enum-told c = search needs
-
-enum-told-2 : tie.Need-enum-told-2
-enum-told-2 c = search needs
-
 returns : tie.Need-returns
 returns c =
-    let e = c .before .before .before .before in
-    let p = e .before .before .before .before .pre in
-    stands-for _ _ _ _ _ (elapsed-call _ (p .0) _ (e .before .load .ensures) (p .1)) (e .elapsed .ensures .0)
-    (turned-away _ _ _ (sym (ap saysElapsed (c .before .a .given .1)) ∙ e .elapsed .ensures .1))
-
-returns-2 : tie.Need-returns-2
-returns-2 c =
-    let e = c .before .before .before in
-    let p = e .before .before .before .before .pre in
-    stands-for _ _ _ _ _ (elapsed-call _ (p .0) _ (e .before .load .ensures) (p .1)) (e .elapsed .ensures .0)
-    (let-through _ _ _ (sym (ap saysElapsed (c .enum-told .given .1)) ∙ e .elapsed .ensures .1))
-
-returns-3 : tie.Need-returns-3
-returns-3 c =
-    let e = c .before .before .before in
-    let p = e .before .before .before .before .pre in
-    stands-for _ _ _ _ _ (elapsed-call _ (p .0) _ (e .before .load .ensures) (p .1)) (e .elapsed .ensures .0)
-    (let-through _ _ _ (sym (ap saysElapsed (c .enum-told2 .given .1)) ∙ e .elapsed .ensures .1))
+    let p = c .before .before .before .before .pre in
+    stands-for _ _ _ _ _ (elapsed-call _ (p .0) _ (c .before .load .ensures) (p .1)) (c .elapsed .ensures .0)
+    (c .elapsed .ensures .1)
 
 pub elapsed-spec : {M : Type 1} → statement M
 elapsed-spec =
     tie.close
-    (tie.spec
-    sub-load
-    part-load-start
-    part-load-end
-    load-requires
-    cast-elapsed
-    elapsed-requires
-    enum-known-a
-    enum-told
-    enum-told-2
-    returns
-    returns-2
-    returns-3)
+    (tie.spec sub-load part-load-start part-load-end load-requires cast-elapsed elapsed-requires returns)
