@@ -88,10 +88,15 @@ pub fn record_answers(file: &[u8], presets: &[Preset]) -> Vec<Answer> {
     records.map(|call| call.map_or(Answer::Refused(11), |_| answered.next().expect("an answer"))).collect()
 }
 
+/// The lines that are printed of what is refused.
+pub fn refused_lines(refused: &[Refused]) -> String {
+    refused.iter().map(|r| format!("refused {} {}\n", r.record, r.number)).collect()
+}
+
 /// What the page program prints for an event file.
 pub fn printed(file: &[u8]) -> String {
     let (history, refused) = read(file, &[]);
-    let mut text: String = refused.iter().map(|r| format!("refused {} {}\n", r.record, r.number)).collect();
+    let mut text = refused_lines(&refused);
     text += &page_text(&page(&history, 512).expect("a buffer of 512 bytes"));
     text
 }

@@ -14,6 +14,8 @@
 //!   An answer is 8 x N if refused by N, which is 12 at the end with bytes left over; 1 'done', also at the end with
 //!   none; 2 'not counted'; 3 if counted, with 8 more if the stamp was loaded, 16 more if a debug log was taken, and 32
 //!   x the counter; for elapsed time 4, and 5 if a window ended;
+//! - the length of the lines that are printed of what is refused (u32) and their bytes, the same with presets or
+//!   without;
 //! - the length of the buffer lent for the page (u16, at most 4,200) and the refusal (u8), 9 or 0; after 0 follow the
 //!   512 bytes of the page;
 //! - the length of the buffer lent for settings back (u16, at most 4,200) and the refusal (u8), 10 or 0; after 0 follow
@@ -26,7 +28,7 @@
 //!   are zero.
 
 use crate::answers::Answer;
-use crate::events::{read, record_answers, Preset, RECORD};
+use crate::events::{read, record_answers, refused_lines, Preset, RECORD};
 use crate::facts::COUNTERS;
 use crate::history::{Call, PAGE_LENGTH};
 use crate::page::{page, settings_back};
@@ -81,7 +83,7 @@ pub fn write(groups: &[Group]) -> Vec<u8> {
 }
 
 fn write_events(out: &mut Vec<u8>, vector: &EventVector) {
-    let (history, _) = read(&vector.file, &vector.presets);
+    let (history, refused) = read(&vector.file, &vector.presets);
     out.extend((vector.file.len() as u32).to_le_bytes());
     out.extend(&vector.file);
     out.push(vector.presets.len() as u8);
@@ -94,6 +96,9 @@ fn write_events(out: &mut Vec<u8>, vector: &EventVector) {
     answers.push(if vector.file.len() % RECORD == 0 { Answer::Done } else { Answer::Refused(12) });
     out.extend((answers.len() as u16).to_le_bytes());
     answers.iter().for_each(|&answer| out.extend(coded(answer).to_le_bytes()));
+    let lines = refused_lines(&refused);
+    out.extend((lines.len() as u32).to_le_bytes());
+    out.extend(lines.as_bytes());
     out.extend(vector.page_buffer.to_le_bytes());
     write_answer(out, &page(&history, vector.page_buffer.into()));
     out.extend(vector.back_buffer.to_le_bytes());
@@ -186,6 +191,7 @@ fn check_events(reader: &mut Reader) -> Result<(), String> {
         earliest = record;
     }
     check_answers(reader, records, length % RECORD != 0)?;
+    check_lines(reader)?;
     check_buffer(reader, PAGE_LENGTH, 9, PAGE_LENGTH)?;
     check_buffer(reader, 4096, 10, 13)
 }
@@ -210,6 +216,17 @@ fn check_answers(reader: &mut Reader, records: u32, left_over: bool) -> Result<(
         return reader.wrong("the answer at the end");
     }
     Ok(())
+}
+
+/// Whole lines, each of what is refused.
+fn check_lines(reader: &mut Reader) -> Result<(), String> {
+    let length = reader.u32()? as usize;
+    let lines = reader.bytes(length)?;
+    if lines.split_inclusive(|&b| b == b'\n').all(|l| l.starts_with(b"refused ") && l.ends_with(b"\n")) {
+        Ok(())
+    } else {
+        reader.wrong("a line that is not one of a refusal")
+    }
 }
 
 /// A buffer's length and the refusal, which is due exactly when the length is not the right one, or so many bytes.

@@ -1,5 +1,6 @@
 // Reads the file of vectors from standard input, runs the product over each vector, and compares byte for byte. Prints
 // a line for each group: its name, and how many of its vectors agree.
+mod blocks;
 mod compare;
 mod input;
 mod play;

@@ -1,7 +1,9 @@
-// An event file, played on a new monitor in two ways: as a whole, and record by record, where each answer is held
-// against the expected one.
+// An event file, played on a new monitor in two ways: block by block, and record by record. The lines of the one and the
+// answers of the other are held against the expected ones.
 ghost use mathlib.Core.Path.{_≡_};
 ghost use lib.ListN.{length};
+use crate::blocks;
+use crate::blocks::Told;
 use crate::compare;
 use events::RecordAnswer;
 use monitor::Answer;
@@ -26,7 +28,7 @@ fn number(s: &[u8]) -> u32 {
 }
 
 // The records of a file from one number up to another; none, where the file has not so many.
-fn part(file: &[u8], from: usize, to: usize) -> &[u8] {
+pub fn part(file: &[u8], from: usize, to: usize) -> &[u8] {
     if file.len() / RECORD < to {
         &file[0..0]
     } else if to < from {
@@ -63,21 +65,28 @@ fn with_presets(mut m: Monitor, presets: &[u8], record: usize) -> Monitor {
     m
 }
 
-// The whole file, in parts where presets stand between them.
-pub fn replayed(file: &[u8], presets: &[u8]) -> Monitor {
-    let mut m = Monitor::new();
+// The whole file by blocks, in parts where presets stand between them.
+pub fn replayed(file: &[u8], presets: &[u8], lines: &[u8]) -> Told {
+    let monitor = Monitor::new();
+    let mut t = Told {
+        monitor,
+        met: 0,
+        agrees: true,
+    };
     let mut from = 0;
     let mut k = 0;
     while k < presets.len() / PRESET {
         let at = PRESET * k;
         let s = &presets[at..at + PRESET];
         let to = number(&s[5..9]) as usize;
-        let before = events::replay(m, part(file, from, to));
-        m = preset(before, s);
+        t = blocks::records(t, file, from, to, lines);
+        let m = preset(t.monitor, s);
+        t.monitor = m;
         from = to;
         k += 1;
     }
-    events::replay(m, part(file, from, file.len() / RECORD))
+    let last = blocks::records(t, file, from, file.len() / RECORD, lines);
+    blocks::end(last, file.len(), lines)
 }
 
 // The answer at the end of a file of so many bytes.

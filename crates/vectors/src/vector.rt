@@ -1,4 +1,5 @@
 // One vector of the file: its call or event file given to the product, and the answers compared.
+use crate::blocks::Told;
 use crate::compare;
 use crate::input;
 use crate::input::Part;
@@ -63,6 +64,15 @@ fn settings_back(m: Monitor, single: Monitor) -> Verdict {
     both(as_a_whole, by_records)
 }
 
+// An event file by blocks, and the lines that are expected of it; no lines agree where they cannot be read.
+fn by_blocks(file: &[u8], presets: &[u8]) -> Told {
+    let mut lines = io::large_buffer();
+    let Part::Read(n) = input::list(4, 1, &mut lines) else {
+        return play::replayed(file, presets, b"?");
+    };
+    play::replayed(file, presets, input::first(&lines, n))
+}
+
 // An event vector.
 fn events() -> Verdict {
     let mut file = input::file_buffer();
@@ -79,13 +89,13 @@ fn events() -> Verdict {
     };
     let records = input::first(&file, bytes);
     let before = input::first(&presets, preset_bytes);
-    let m = play::replayed(records, before);
     let a = play::answered(records, before, input::first(&answers, answer_bytes));
+    let t = by_blocks(records, before);
+    let m = t.monitor;
     let single = a.monitor;
-    let answered = judged(a.agrees);
     let shown = page(m, single);
     let given = settings_back(m, single);
-    both(answered, both(shown, given))
+    both(judged(t.agrees & a.agrees), both(shown, given))
 }
 
 // Puts bytes into settings, each at its place. Whether all places were there.

@@ -116,8 +116,8 @@ sound-call (completion c) b = tt
 sound-call (elapsed ms) b = none-in (elapsedRefusal ms) (passed ms) tt
 sound-call (clock value) b = none-in (clockRefusal value) (clockSet value) tt
 sound-call powerUp b = tt
-sound-call (page k) b = none-in (pageRefusal length) nothing tt
-sound-call (settingsBack k) b = none-in (settingsBackRefusal length) nothing tt
+sound-call (page k) b = none-in (pageRefusal k) nothing tt
+sound-call (settingsBack k) b = none-in (settingsBackRefusal k) nothing tt
 
 pub sound-past : (h : History) → OfBytes h → SoundPast (pastOf h)
 sound-past [] b = tt

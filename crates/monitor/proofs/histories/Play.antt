@@ -167,8 +167,8 @@ step past g (clock value) = by (clockRefusal value) refl
     by none e = (clock-fits value e, clock-step past value (clock-fits value e))
     by (some n) e = (tt, clock-kept (recordOf past) n value e ∙ nothing-step past)
 step past g powerUp = (tt, power-up-step past)
-step past g (page k) = reads past (pageRefusal length)
-step past g (settingsBack k) = reads past (settingsBackRefusal length)
+step past g (page k) = reads past (pageRefusal k)
+step past g (settingsBack k) = reads past (settingsBackRefusal k)
 
 pub good : (h : History) → Good (pastOf h)
 unfolding Step

@@ -1,5 +1,5 @@
--- `vectors::play::replayed` is safe and ends.
-use Prim.Native.Nat.{_-_, _/_}
+-- `replayed`: one preset after the other.
+use Prim.Native.Nat.{_-_, _/_, _≤_}
 use lib.ListN.{length}
 use native.Mathlib.Omega.{arith}
 use borrow.Author.Needs.{needs}
@@ -7,10 +7,10 @@ use Rattle.vectors.proofs.play.replayed.Statement.{statement}
 use Rattle.vectors.proofs.play.replayed.Tie as tie
 
 abbrev Inv-loop : tie.InvT-loop
-Inv-loop file presets m₀ from₀ k₀ m from k = Unit {0}
+Inv-loop file presets lines t₀ from₀ k₀ t from k = k ≤ length presets / 9
 
 abbrev μ-loop : tie.MeasureT-loop
-μ-loop file presets m₀ from₀ k₀ m from k = length presets / 9 - k
+μ-loop file presets lines t₀ from₀ k₀ t from k = length presets / 9 - k
 
 new-requires : tie.Need-new-requires Inv-loop μ-loop
 new-requires c κs = search needs
@@ -48,19 +48,16 @@ number-requires c κs = search needs
 cast-to : tie.Need-cast-to Inv-loop μ-loop
 cast-to c = search needs
 
-part-requires : tie.Need-part-requires Inv-loop μ-loop
-part-requires c κs = search needs
-
-replay-requires : tie.Need-replay-requires Inv-loop μ-loop
-replay-requires c κs = search needs
+records-requires : tie.Need-records-requires Inv-loop μ-loop
+records-requires c κs = search needs
 
 preset-requires : tie.Need-preset-requires Inv-loop μ-loop
 preset-requires c κs = search needs
 
 add-k : tie.Need-add-k Inv-loop μ-loop
 add-k c =
-    let l = c .before .before .before .before .before .before in
-    omega (arith, l .loop-test .taken, l .before .before .before .before .before .good)
+    let l = c .before .before .before .before .before in
+    omega (arith, l .loop-test .taken, l .before .before .before .before .before .before .good)
 
 loop-less : tie.Need-loop-less Inv-loop μ-loop
 loop-less c = search needs
@@ -68,11 +65,11 @@ loop-less c = search needs
 loop-again : tie.Need-loop-again Inv-loop μ-loop
 loop-again c = search needs
 
-part-requires-2 : tie.Need-part-requires-2 Inv-loop μ-loop
-part-requires-2 c κs = search needs
+records-requires-2 : tie.Need-records-requires-2 Inv-loop μ-loop
+records-requires-2 c κs = search needs
 
-replay-requires-2 : tie.Need-replay-requires-2 Inv-loop μ-loop
-replay-requires-2 c κs = search needs
+end-requires : tie.Need-end-requires Inv-loop μ-loop
+end-requires c κs = search needs
 
 returns : tie.Need-returns Inv-loop μ-loop
 returns c = search needs
@@ -95,12 +92,11 @@ replayed-spec =
     part-number-end
     number-requires
     cast-to
-    part-requires
-    replay-requires
+    records-requires
     preset-requires
     add-k
     loop-less
     loop-again
-    part-requires-2
-    replay-requires-2
+    records-requires-2
+    end-requires
     returns)

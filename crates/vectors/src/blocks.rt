@@ -1,0 +1,86 @@
+// An event file as the page program takes it: block by block, with the lines of what is refused.
+ghost use mathlib.Core.Path.{_≡_};
+ghost use Prim.Native.Nat.{_<_};
+ghost use lib.ListN.{length};
+use crate::compare;
+use crate::play;
+use monitor::Monitor;
+
+// The records of a block.
+const BLOCK: usize = 4096;
+
+// The monitor so far, how many bytes of the expected lines it has told, and whether it told no others.
+pub struct Told {
+    pub monitor: Monitor,
+    pub met: usize,
+    pub agrees: bool,
+}
+
+// Room for the lines of a block.
+fn lines() -> [u8; 204800]
+    ensures { λ r. ⌜ 204800 ≡ length r ⌝ }
+{
+    [0; 204800]
+}
+
+// Lines that were told, held against the next expected ones.
+fn met(mut t: Told, s: &[u8], expected: &[u8]) -> Told {
+    let from = t.met;
+    if from <= expected.len() {
+        if s.len() <= expected.len() - from {
+            let end = from + s.len();
+            if compare::holds(&expected[from..end], s, 0) {
+                t.met = end;
+                return t;
+            }
+        }
+    }
+    t.agrees = false;
+    t
+}
+
+// A block of records, whose first has this number.
+fn block(t: Told, s: &[u8], first: usize, expected: &[u8]) -> Told {
+    let mut out = lines();
+    let m = t.monitor;
+    let b = events::replay_block(m, s, first as u64, &mut out);
+    let monitor = b.monitor;
+    let len = b.len;
+    let next = Told {
+        monitor,
+        met: t.met,
+        agrees: t.agrees,
+    };
+    met(next, &out[..len], expected)
+}
+
+// Where a block from record i on ends, if the records go up to another.
+fn block_end(i: usize, to: usize) -> usize
+    requires { ⌜ i < to ⌝ }
+    ensures { λ r. ⌜ i < r ⌝ }
+{
+    if to - i < BLOCK { to } else { i + BLOCK }
+}
+
+// The records of a file from one number up to another.
+pub fn records(mut t: Told, file: &[u8], from: usize, to: usize, expected: &[u8]) -> Told {
+    let mut i = from;
+    while i < to {
+        let end = block_end(i, to);
+        t = block(t, play::part(file, i, end), i, expected);
+        i = end;
+    }
+    t
+}
+
+// The end of a file of n bytes: what is left over, and no line missing.
+pub fn end(t: Told, n: usize, expected: &[u8]) -> Told {
+    let line = events::end_line((n / 16) as u64, n);
+    let bytes = line.bytes;
+    let len = line.len;
+    let mut last = met(t, &bytes[..len], expected);
+    if last.met != expected.len() {
+        last.agrees = false;
+    }
+    last
+}
