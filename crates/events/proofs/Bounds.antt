@@ -16,6 +16,6 @@ unfolding firstRefused
 in-file s p e = omega (arith, found-at s (wholeRecords s) 0 p e .0)
 
 -- all of a block is taken where its lines have room
-pub all-with-room : (s : List ℕ) (room : ℕ) → length s ≤ 16 * (room / 50) → withRoom s room ≡ s
+pub all-with-room : (s output : List ℕ) → length s ≤ 16 * (length output / 50) → withRoom s output ≡ s
 unfolding withRoom
-all-with-room s room h = take-all (16 * (room / 50)) s h
+all-with-room s output h = take-all (16 * (length output / 50)) s h

@@ -1,10 +1,14 @@
 -- 01, The page program: what is printed before the page, the lines of refused records and of what is left over.
 use mathlib.Core.List.{List, [], _∷_, _++_}
+use mathlib.Core.Path.{_≡_}
 use Prim.Native.Nat.{ℕ, zero, suc, _+_, _*_, _/_, _%_, _^_}
-use lib.ListN.{take}
-use Rattle.monitor.specs.History.{found}
+use lib.ListN.{length, take}
+use Rattle.monitor.specs.declared.record.Monitor.{Monitor}
+use Rattle.monitor.specs.History.{found, playFrom}
 use Rattle.text.specs.Lines.{refusedLine}
-use Rattle.events.specs.Records.{recordAt, wholeRecords, recordRefusal, endRefusal}
+use Rattle.text.specs.Stored.{Stored}
+use Rattle.events.specs.declared.blocks.Block.{Block}
+use Rattle.events.specs.Records.{recordAt, wholeRecords, historyOf, recordRefusal, endRefusal}
 
 -- the line of record i, if it is refused: its number, and the refusal. The bytes' first record has the number `first`;
 -- numbers have 64 bits, more than any file needs.
@@ -21,9 +25,14 @@ linesFrom first s i (suc n) = recordLine first s i ++ linesFrom first s (suc i) 
 unfoldable pub refusedLines : (first : ℕ) → List ℕ → List ℕ
 refusedLines first s = linesFrom first s 0 (wholeRecords s)
 
--- of so many bytes of input, those whose lines have room in so many bytes of output: 50 for each record
-unfoldable pub withRoom : List ℕ → (room : ℕ) → List ℕ
-withRoom s room = take (16 * (room / 50)) s
+-- what a block leaves: the monitor that its records make of another, and its lines at the start of the output
+pub record BlockLeaves (m : Monitor) (s : List ℕ) (first : ℕ) (before after : List ℕ) (b : Block) : Type 0 where
+  pub monitor : b .monitor ≡ playFrom m (historyOf s)
+  pub lines : Stored (refusedLines first s) 0 (length before) before after (b .len)
+
+-- as much of the input as an output has room for the lines of: 50 bytes for each record
+unfoldable pub withRoom : (s output : List ℕ) → List ℕ
+withRoom s output = take (16 * (length output / 50)) s
 
 -- the line of what is left over behind so many records, in a last block of n bytes
 unfoldable pub endLine : (records n : ℕ) → List ℕ

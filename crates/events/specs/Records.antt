@@ -1,4 +1,4 @@
--- The page program's records: the call that each stands for, its refusal, and the history of a file.
+-- 01, The page program: the call that each record stands for, its refusal, and the history of a file.
 use mathlib.Core.Bool.{Bool, cond, not, _&&_}
 use mathlib.Core.List.{List, [], _++_}
 use mathlib.Core.Option.{Option, none, some}
@@ -17,7 +17,7 @@ use Rattle.events.specs.declared.answers.RecordAnswer.the-variants as an
 use Rattle.events.specs.declared.files.Halt.{Halt}
 use Rattle.events.specs.declared.files.Halt.the-variants as halt
 
--- Byte 0 is the kind.
+-- a record begins with its kind
 abbrev pub recordKind : List ℕ → ℕ
 recordKind r = getD r 0 0
 
@@ -29,26 +29,26 @@ part from to r = take (to - from) (drop from r)
 abbrev pub unnamed : (from to rest : ℕ) → List ℕ → List ℕ
 unnamed from to rest r = part from to r ++ drop rest r
 
--- an unnamed byte not zero: the record stands for no call
+-- the call, unless one of these bytes is set
 abbrev ifClear : List ℕ → Call → Option Call
 ifClear bytes c = cond (anySet bytes) none (some c)
 
--- 1 settings: bytes 1-13 are settings bytes 0-12, and the others of the 4,096 are zero
+-- kind 1 brings the thirteen settings bytes that are not reserved
 unfoldable pub settingsBytes : List ℕ → List ℕ
 settingsBytes r = part 1 14 r ++ replicate 4083 0
 
--- 2 completion: byte 1 opcode, 4-7 latency
+-- kind 2 brings a command
 unfoldable pub commandOf : List ℕ → Command
 commandOf r = record { opcode = getD r 1 0; latency = number (part 4 8 r) }
 
--- 3 elapsed: 4-7; 4 clock: 4-11
+-- kind 3 brings four bytes of time, kind 4 eight of the clock
 unfoldable pub elapsedOf : List ℕ → ℕ
 elapsedOf r = number (part 4 8 r)
 
 unfoldable pub clockOf : List ℕ → ℕ
 clockOf r = number (part 4 12 r)
 
--- a record of 16 bytes by its kind, each with the bytes that it leaves unnamed; 5 is power-up
+-- the call of a kind, if the bytes that the kind has no name for are clear; 5 is power-up, which brings nothing
 unfoldable pub callOfKind : ℕ → List ℕ → Option Call
 callOfKind kind r =
     cond (eqb kind 1) (ifClear (unnamed 14 16 16 r) (settings (settingsBytes r)))
@@ -61,7 +61,7 @@ callOfKind kind r =
 unfoldable pub callOf : List ℕ → Option Call
 callOf r = cond (eqb (length r) 16) (callOfKind (recordKind r) r) none
 
--- a record of a kind, with the bytes that the kind leaves unnamed zero
+-- whether a record is of a kind, with those bytes clear
 abbrev pub isKind : (kind from to rest : ℕ) → List ℕ → Bool
 isKind kind from to rest r = eqb (recordKind r) kind && not (anySet (unnamed from to rest r))
 
@@ -71,15 +71,15 @@ isCompletion = isKind 2 2 4 8
 unfoldable pub isElapsed : List ℕ → Bool
 isElapsed = isKind 3 1 4 8
 
--- kind unknown, or an unnamed byte not zero: 11, which is checked first, before the call that it stands for is made
+-- 01, Where a call is turned away: what stands for no call is refused by 11, and else the call's own rows decide
 unfoldable pub recordRefusal : List ℕ → Option ℕ
 recordRefusal r = found (some 11) refusalOf (callOf r)
 
--- what a record answers on a monitor: its call's own answer, or 11 (document 01, Where a call is turned away)
+-- what a record answers on a monitor: its call's own answer, or 11
 unfoldable pub recordAnswer : Monitor → List ℕ → CallAnswer
 recordAnswer m r = found (refused 11) (answerOf m) (callOf r)
 
--- what the code's cases say, in the answers that document 01 names for a completion, for time and for the others
+-- what the code's cases say
 abbrev pub saysRecord : RecordAnswer → CallAnswer
 saysRecord (answer.Refused n) = refused n
 saysRecord answer.Done = done
@@ -131,11 +131,11 @@ firstRefused s = firstRefusedFrom s 0 (wholeRecords s)
 unfoldable pub acceptedRecords : List ℕ → ℕ
 acceptedRecords s = found (wholeRecords s) (λ (r : Refusal). r .index) (firstRefused s)
 
--- what the code's places say
+-- where a run halted
 abbrev pub saysHalt : Halt → Option Refusal
 saysHalt (halt.Refused i n) = some (record { index = i; number = n })
 saysHalt halt.End = none
 
--- 1 to 15 bytes left over: 12
+-- 01, Where a call is turned away: a file that is not of whole records
 unfoldable pub endRefusal : ℕ → Option ℕ
 endRefusal n = cond (eqb (n % 16) 0) none (some 12)

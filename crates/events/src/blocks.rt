@@ -5,9 +5,8 @@ ghost use Prim.Native.Nat.{_+_, _*_, _≤_};
 ghost use lib.ListN.{length, take};
 ghost use Rattle.text.specs.Lines.{refusedLine, asLine};
 ghost use Rattle.text.specs.Stored.{Stored};
-ghost use Rattle.monitor.specs.History.{playFrom};
-ghost use Rattle.events.specs.Records.{historyOf, wholeRecords};
-ghost use Rattle.events.specs.Blocks.{refusedLines, withRoom, endLine};
+ghost use Rattle.events.specs.Records.{wholeRecords};
+ghost use Rattle.events.specs.Blocks.{BlockLeaves, withRoom, endLine};
 use crate::files;
 use crate::files::Halt;
 use crate::records;
@@ -39,8 +38,7 @@ fn put_line(out: &mut [u8], at: usize, index: u64, refusal: u8) -> usize
 // The records of a block, whose lines have room.
 fn replay_lines(m: Monitor, s: &[u8], first: u64, out: &mut [u8]) -> Block
     requires { ⌜ 50 * wholeRecords (now s) ≤ length (now out) ⌝ }
-    ensures monitor { λ b. ⌜ b .monitor ≡ playFrom m (historyOf (now (s .entry))) ⌝ }
-    ensures lines { λ b. ⌜ Stored (refusedLines first (now (s .entry))) 0 (50 * wholeRecords (now (s .entry))) (now (out .entry)) (now (out .exit)) (b .len) ⌝ }
+    ensures { λ b. ⌜ BlockLeaves m (now (s .entry)) first (now (out .entry)) (now (out .exit)) b ⌝ }
 {
     let mut monitor = m;
     let mut len = 0;
@@ -75,8 +73,7 @@ fn first_bytes(s: &[u8], n: usize) -> &[u8]
 // A block of whole records, the first of which has the number `first`: as much of it as the output has room for, 50
 // bytes a record.
 pub fn replay_block(m: Monitor, s: &[u8], first: u64, out: &mut [u8]) -> Block
-    ensures monitor { λ b. ⌜ b .monitor ≡ playFrom m (historyOf (withRoom (now (s .entry)) (length (now (out .entry))))) ⌝ }
-    ensures lines { λ b. ⌜ Stored (refusedLines first (withRoom (now (s .entry)) (length (now (out .entry))))) 0 (length (now (out .entry))) (now (out .entry)) (now (out .exit)) (b .len) ⌝ }
+    ensures { λ b. ⌜ BlockLeaves m (withRoom (now (s .entry)) (now (out .entry))) first (now (out .entry)) (now (out .exit)) b ⌝ }
 {
     let part = first_bytes(s, records::RECORD * (out.len() / LINE));
     replay_lines(m, part, first, out)

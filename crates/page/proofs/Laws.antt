@@ -1,8 +1,8 @@
 -- Laws of what has been read so far.
 use mathlib.Core.Bool.{true, false}
-use mathlib.Core.List.{List, [], _++_}
+use mathlib.Core.List.{List, []}
 use mathlib.Core.Path.{_≡_, refl, _∙_}
-use Prim.Native.Nat.{ℕ, _+_, _/_, _%_, _≤_}
+use Prim.Native.Nat.{ℕ, _+_, _/_}
 use native.Mathlib.Omega.{arith}
 use lib.ListN.{length, length-append}
 use Rattle.monitor.specs.declared.record.Monitor.{Monitor}
@@ -12,7 +12,7 @@ use Rattle.events.specs.Claims.{InParts}
 use Rattle.events.specs.Records.{callsBefore, historyOf}
 use Rattle.events.proofs.Parts.{in-parts}
 use Rattle.page.specs.declared.progress.Progress.{Progress}
-use Rattle.page.specs.Progress.{SoFar}
+use Rattle.page.specs.Progress.{SoFar, Reads}
 
 pub nothing-read : (m : Monitor) → m ≡ newMonitor → SoFar [] (record { monitor = m; next = 0 })
 unfolding historyOf callsBefore playFrom
@@ -21,10 +21,7 @@ nothing-read m e = record { monitor = e; next = refl }
 pub block-read :
     (p : Progress) (s : List ℕ) (m : Monitor) →
     m ≡ playFrom (p .monitor) (historyOf s) →
-    (t : List ℕ) →
-    length t % 16 ≡ 0 →
-    SoFar t p →
-    SoFar (t ++ s) (record { monitor = m; next = p .next + length s / 16 })
+    Reads p s (record { monitor = m; next = p .next + length s / 16 })
 unfolding InParts
 block-read p s m e t whole so-far =
     record {

@@ -5,11 +5,10 @@ mod output;
 mod progress;
 
 ghost use mathlib.Core.Bool.{true};
-ghost use mathlib.Core.List.{List, _++_};
 ghost use mathlib.Core.Path.{_≡_};
-ghost use Prim.Native.Nat.{ℕ, _+_, _%_, _≤_, _<_, _^_};
+ghost use Prim.Native.Nat.{_+_, _≤_, _<_, _^_};
 ghost use lib.ListN.{length};
-ghost use Rattle.page.specs.Progress.{SoFar};
+ghost use Rattle.page.specs.Progress.{Reads};
 use progress::Progress;
 
 // More blocks than any run takes: nothing else says that the input ends.
@@ -26,7 +25,7 @@ struct Turn {
 fn advance(p: Progress, fd: i32, block: &mut [u8], lines: &mut [u8]) -> Turn
     requires { ⌜ (length (now block) ≡ 65536) × (length (now lines) ≡ 204800) × (p .next < 2 ^ 60) ⌝ }
     ensures next { λ r. ⌜ r .progress .next ≤ p .next + 4096 ⌝ }
-    ensures read { λ r. ⌜ (r .more ≡ true → (t : List ℕ) → length t % 16 ≡ 0 → SoFar t p → SoFar (t ++ now (block .exit)) (r .progress)) ⌝ }
+    ensures read { λ r. ⌜ (r .more ≡ true → Reads p (now (block .exit)) (r .progress)) ⌝ }
 {
     let filled = input::fill(fd, block);
     let n = filled.n;

@@ -1,14 +1,13 @@
 // What has been read so far, and what is printed of it.
 ghost use mathlib.Core.Path.{_≡_};
-ghost use mathlib.Core.List.{List, [], _++_};
-ghost use Prim.Native.Nat.{ℕ, _+_, _/_, _%_, _≤_, _<_, _^_};
+ghost use mathlib.Core.List.{[]};
+ghost use Prim.Native.Nat.{_+_, _/_, _≤_, _<_, _^_};
 ghost use lib.ListN.{length};
 ghost use Rattle.text.specs.Lines.{asLine};
 ghost use Rattle.text.specs.Pages.{asText, textOf};
-ghost use Rattle.text.specs.Stored.{Stored};
 ghost use Rattle.monitor.specs.Report.{pageOf};
-ghost use Rattle.events.specs.Blocks.{refusedLines, endLine};
-ghost use Rattle.page.specs.Progress.{SoFar};
+ghost use Rattle.events.specs.Blocks.{endLine};
+ghost use Rattle.page.specs.Progress.{SoFar, Reads, Told};
 use monitor::Monitor;
 use text::Line;
 use text::Text;
@@ -37,9 +36,9 @@ impl Progress {
     // The next block, with its refused lines.
     pub fn take(self, s: &[u8], out: &mut [u8]) -> Taken
         requires { ⌜ (length (now s) ≤ 65536) × (length (now out) ≡ 204800) × (self .next < 2 ^ 60) ⌝ }
-        ensures read { λ r. ⌜ ((t : List ℕ) → length t % 16 ≡ 0 → SoFar t self → SoFar (t ++ now (s .entry)) (r .progress)) ⌝ }
+        ensures read { λ r. ⌜ Reads self (now (s .entry)) (r .progress) ⌝ }
         ensures next { λ r. ⌜ r .progress .next ≡ self .next + length (now (s .entry)) / 16 ⌝ }
-        ensures lines { λ r. ⌜ Stored (refusedLines (self .next) (now (s .entry))) 0 204800 (now (out .entry)) (now (out .exit)) (r .len) ⌝ }
+        ensures lines { λ r. ⌜ Told (self .next) (now (s .entry)) (now (out .entry)) (now (out .exit)) (r .len) ⌝ }
     {
         let next = self.next + (s.len() / 16) as u64;
         let b = events::replay_block(self.monitor, s, self.next, out);

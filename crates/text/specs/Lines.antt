@@ -1,10 +1,10 @@
 -- 01, The page program: the line of what is refused.
 use mathlib.Core.Bool.{cond}
 use mathlib.Core.List.{List, [], _∷_, _++_}
-use Prim.Native.Nat.{ℕ, zero, suc, _+_, _/_, _%_}
+use Prim.Native.Nat.{ℕ, zero, suc, _+_, _*_, _/_, _%_}
 use lib.Dec.{ltb}
 use lib.ListN.{length}
-use Rattle.text.specs.Stored.{padded}
+use Rattle.text.specs.Stored.{Stored, padded}
 use Rattle.text.specs.declared.lines.Line.{Line}
 
 -- the last k decimal digits of n as ASCII bytes, the highest first
@@ -34,6 +34,13 @@ refusedWord = 114 ∷ 101 ∷ 102 ∷ 117 ∷ 115 ∷ 101 ∷ 100 ∷ []
 unfoldable pub refusedLine : List ℕ → List ℕ
 refusedLine numbers = refusedWord ++ spaced numbers ++ (10 ∷ [])
 
--- a line in a room of 50 bytes: the word, two numbers of at most 20 digits behind a space each, and the newline
+-- the numbers, and the line, stored in a buffer: a number has at most 20 digits behind its space
+abbrev pub NumbersStored : List ℕ → ℕ → (before after : List ℕ) (took : ℕ) → Type 0
+NumbersStored numbers at = Stored (spaced numbers) at (21 * length numbers)
+
+abbrev pub LineStored : List ℕ → ℕ → (before after : List ℕ) (took : ℕ) → Type 0
+LineStored numbers at = Stored (refusedLine numbers) at (8 + 21 * length numbers)
+
+-- a line in a room of 50 bytes, enough for two numbers
 unfoldable pub asLine : List ℕ → Line
 asLine t = record { bytes = padded 50 t; len = length t }

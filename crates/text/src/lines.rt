@@ -4,7 +4,8 @@ ghost use mathlib.Core.List.{[], _∷_};
 ghost use Prim.Native.Nat.{_+_, _*_, _≤_};
 ghost use lib.ListN.{length};
 ghost use lib.Seq.{sets};
-ghost use Rattle.text.specs.Lines.{digits, widthWithin, decimal, spaced, refusedLine, asLine};
+ghost use Rattle.text.specs.Lines.{digits, widthWithin, decimal, NumbersStored, LineStored};
+ghost use Rattle.text.specs.Lines.{refusedLine, asLine};
 ghost use Rattle.text.specs.Stored.{Stored};
 
 // The line is the first `len` bytes; the others are zero.
@@ -72,7 +73,7 @@ fn put_number(out: &mut [u8], at: usize, n: u64) -> usize
 // Stores each number behind a space, and says how many bytes they took.
 fn put_numbers(out: &mut [u8], at: usize, numbers: &[u64]) -> usize
     requires { ⌜ at + 21 * length (now numbers) ≤ length (now out) ⌝ }
-    ensures { λ r. ⌜ Stored (spaced (now (numbers .entry))) at (21 * length (now (numbers .entry))) (now (out .entry)) (now (out .exit)) r ⌝ }
+    ensures { λ r. ⌜ NumbersStored (now (numbers .entry)) at (now (out .entry)) (now (out .exit)) r ⌝ }
 {
     let mut took = 0;
     let mut i = 0;
@@ -86,7 +87,7 @@ fn put_numbers(out: &mut [u8], at: usize, numbers: &[u64]) -> usize
 // Stores a refused line with these numbers, and says how many bytes it took.
 fn put_refused(out: &mut [u8], at: usize, numbers: &[u64]) -> usize
     requires { ⌜ at + (8 + 21 * length (now numbers)) ≤ length (now out) ⌝ }
-    ensures { λ r. ⌜ Stored (refusedLine (now (numbers .entry))) at (8 + 21 * length (now (numbers .entry))) (now (out .entry)) (now (out .exit)) r ⌝ }
+    ensures { λ r. ⌜ LineStored (now (numbers .entry)) at (now (out .entry)) (now (out .exit)) r ⌝ }
 {
     put_text(out, at, b"refused");
     let took = put_numbers(out, at + 7, numbers);

@@ -1,5 +1,5 @@
-// An event file, played on a new monitor in two ways: block by block, and record by record. The lines of the one and the
-// answers of the other are held against the expected ones.
+// An event file, played on a new monitor in two ways: block by block, and record by record. The lines of the one and
+// the answers of the other are held against the expected ones.
 ghost use mathlib.Core.Path.{_≡_};
 ghost use lib.ListN.{length};
 use crate::blocks;

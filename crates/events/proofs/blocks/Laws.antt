@@ -14,7 +14,7 @@ use Rattle.monitor.specs.History.{found, orElse}
 use Rattle.text.specs.declared.lines.Line.{Line}
 use Rattle.text.specs.Lines.{refusedLine, asLine}
 use Rattle.text.specs.Stored.{Stored}
-use Rattle.events.specs.Blocks.{recordLine, linesFrom, refusedLines, withRoom, endLine}
+use Rattle.events.specs.Blocks.{recordLine, linesFrom, refusedLines, endLine}
 use Rattle.events.specs.Records.{Refusal, refusalAt, firstRefusedFrom, firstRefused, recordAt, recordRefusal}
 use Rattle.events.specs.Records.{wholeRecords, endRefusal}
 use Rattle.events.proofs.files.Laws.{rest-record}
@@ -37,7 +37,9 @@ line-put line t out last at e le room copied =
     let k : at + line .len - at ≡ length t = omega arith in
     let there : last ≡ t = copied ∙ line-text line t e in
     record {
-      content = rw (k, there, drop-drop (length t) at out) (sym (sets-eq t out at (omega arith) ∙ append-assoc (take at out) t (drop (at + length t) out)));
+      content =
+          rw (k, there, drop-drop (length t) at out)
+          (sym (sets-eq t out at (omega arith) ∙ append-assoc (take at out) t (drop (at + length t) out)));
       exact = size;
       within = le;
     }
@@ -151,9 +153,10 @@ module _ (first : ℕ) (s before : List ℕ) where
       i ≤ wholeRecords s →
       Told first s before after i took →
       none ≡ firstRefused (drop (16 * i) s) →
-      Stored (refusedLines first s) 0 (50 * wholeRecords s) before after took
+      50 * wholeRecords s ≤ length before →
+      Stored (refusedLines first s) 0 (length before) before after took
   unfolding firstRefused
-  told-all after i took le t e =
+  told-all after i took le t e room =
       let r = drop (16 * i) s in
       let whole : wholeRecords r ≡ wholeRecords s - i = omega (arith, length-drop (16 * i) s) in
       let zero-on : i + 0 ≡ i = omega arith in
@@ -169,19 +172,6 @@ module _ (first : ℕ) (s before : List ℕ) where
 -- the records that have room
 pub has-room : (s : List ℕ) (n : ℕ) → 50 * wholeRecords (take (16 * (n / 50)) s) ≤ n
 has-room s n = omega (arith, length-take (16 * (n / 50)) s)
-
-pub in-output :
-    (first : ℕ) (s before after : List ℕ) (took : ℕ) →
-    let part = take (16 * (length before / 50)) s in
-    Stored (refusedLines first part) 0 (50 * wholeRecords part) before after took →
-    Stored (refusedLines first (withRoom s (length before))) 0 (length before) before after took
-unfolding withRoom
-in-output first s before after took t =
-    record {
-      content = t .content;
-      exact = t .exact;
-      within = omega (arith, t .within, has-room s (length before));
-    }
 
 -- the end of the input: an answer says whether there was a refusal, and which
 not-refused : (o : Option ℕ) → done ≡ unlessRefused o done → o ≡ none

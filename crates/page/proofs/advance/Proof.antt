@@ -31,7 +31,9 @@ slice-aggregate-take : tie.Need-slice-aggregate-take
 slice-aggregate-take c = sym (length-take-le _ _ (omega (arith, c .before .before .before .before .fill .ensures)))
 
 take-requires : tie.Need-take-requires
-take-requires c κs = (rw length-take (omega (arith, c .before .before .before .before .before .fill .ensures)), search needs, search needs)
+take-requires c κs =
+    let filled = c .before .before .before .before .before .fill .ensures in
+    (rw length-take (omega (arith, filled)), search needs, search needs)
 
 -- the next record's number
 few :

@@ -1,7 +1,7 @@
 -- `replay_block`: the records that have room are those of a part of the input.
 use borrow.Author.Needs.{needs}
 use Rattle.events.specs.Blocks.{withRoom}
-use Rattle.events.proofs.blocks.Laws.{has-room, in-output}
+use Rattle.events.proofs.blocks.Laws.{has-room}
 use Rattle.events.proofs.blocks.replay_block.Statement.{statement}
 use Rattle.events.proofs.blocks.replay_block.Tie as tie
 
@@ -21,8 +21,7 @@ returns : tie.Need-returns
 unfolding withRoom
 returns c =
     let part = c .before .before .before .before .first-bytes in
-    let replayed = rw (part .ensures) at (c .before .before .replay-lines .ensures) in
-    (replayed .0, in-output _ _ _ _ _ (replayed .1))
+    rw (part .ensures) at (c .before .before .replay-lines .ensures)
 
 pub replay-block-spec : {M : Type 1} → statement M
 replay-block-spec =

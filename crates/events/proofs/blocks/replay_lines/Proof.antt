@@ -111,7 +111,11 @@ returns c =
     let l = u .before .before .loop in
     let e = rw (part-to-end _ (16 * l .i)) at (u .run .ensures) in
     let end = sym (ap saysHalt (c .enum-told .given .1)) ∙ e .1 in
-    (replayed _ _ _ _ (l .i) (l .inv .0) (e .0, end), told-all _ _ _ _ (l .i) _ (l .inv .0 .0) (l .inv .1) end)
+    let start = c .before .before .before .before .before .before .before .before in
+    record {
+      monitor = replayed _ _ _ _ (l .i) (l .inv .0) (e .0, end);
+      lines = told-all _ _ _ _ (l .i) _ (l .inv .0 .0) (l .inv .1) end (start .pre);
+    }
 
 pub replay-lines-spec : {M : Type 1} → statement M
 replay-lines-spec =

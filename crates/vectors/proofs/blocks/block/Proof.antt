@@ -21,7 +21,7 @@ array-share-prefix-out c = search needs
 
 slice-aggregate-met : tie.Need-slice-aggregate-met
 slice-aggregate-met c =
-    let lines = c .before .before .before .replay-block .ensures .1 in
+    let lines = c .before .before .before .replay-block .ensures .lines in
     sym (length-take-le _ _ (omega (arith, lines .within, same-room lines)))
 
 met-requires : tie.Need-met-requires

@@ -1,7 +1,6 @@
 -- `Progress::take`: the lines of a whole block have room, so all of it is taken.
 use mathlib.Core.Path.{refl}
 use native.Mathlib.Omega.{arith}
-use lib.ListN.{length}
 use Rattle.events.proofs.Bounds.{all-with-room}
 use Rattle.page.proofs.Laws.{block-read}
 use borrow.Author.Needs.{needs}
@@ -22,9 +21,9 @@ returns c =
     let start = c .before .before .before .before .before .before .before .before in
     let s = start .args .s .now in
     let out = start .args .out .now in
-    let all = all-with-room s (length out) (omega (arith, start .pre .0, start .pre .1)) in
+    let all = all-with-room s out (omega (arith, start .pre .0, start .pre .1)) in
     let replayed = rw all at (c .before .before .before .replay-block .ensures) in
-    (block-read (start .args .self) s _ (replayed .0), (refl, rw (start .pre .1) at (replayed .1)))
+    (block-read (start .args .self) s _ (replayed .monitor), (refl, replayed .lines))
 
 pub take-spec : {M : Type 1} → statement M
 take-spec = tie.close (tie.spec add-next replay-block-requires same-length returns)
