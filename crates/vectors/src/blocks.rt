@@ -1,26 +1,17 @@
-// An event file as the page program takes it: block by block, with the lines of what is refused.
-ghost use mathlib.Core.Path.{_≡_};
+// An event file in blocks, as the page program takes it, with the lines of what is refused.
 ghost use Prim.Native.Nat.{_<_};
-ghost use lib.ListN.{length};
 use crate::compare;
 use crate::play;
 use monitor::Monitor;
 
-// The records of a block.
-const BLOCK: usize = 4096;
+// The records of a block: the lines of so many have room in a large buffer.
+const BLOCK: usize = 1024;
 
 // The monitor so far, how many bytes of the expected lines it has told, and whether it told no others.
 pub struct Told {
     pub monitor: Monitor,
     pub met: usize,
     pub agrees: bool,
-}
-
-// Room for the lines of a block.
-fn lines() -> [u8; 204800]
-    ensures { λ r. ⌜ 204800 ≡ length r ⌝ }
-{
-    [0; 204800]
 }
 
 // Lines that were told, held against the next expected ones.
@@ -41,7 +32,7 @@ fn met(mut t: Told, s: &[u8], expected: &[u8]) -> Told {
 
 // A block of records, whose first has this number.
 fn block(t: Told, s: &[u8], first: usize, expected: &[u8]) -> Told {
-    let mut out = lines();
+    let mut out = io::large_buffer();
     let m = t.monitor;
     let b = events::replay_block(m, s, first as u64, &mut out);
     let monitor = b.monitor;

@@ -7,8 +7,8 @@ use Rattle.text.proofs.Storing.{same-room}
 use Rattle.vectors.proofs.blocks.block.Statement.{statement}
 use Rattle.vectors.proofs.blocks.block.Tie as tie
 
-lines-requires : tie.Need-lines-requires
-lines-requires c κs = search needs
+large-buffer-requires : tie.Need-large-buffer-requires
+large-buffer-requires c κs = search needs
 
 slice-aggregate-replay-block : tie.Need-slice-aggregate-replay-block
 slice-aggregate-replay-block c = search needs
@@ -34,7 +34,7 @@ pub block-spec : {M : Type 1} → statement M
 block-spec =
     tie.close
     (tie.spec
-    lines-requires
+    large-buffer-requires
     slice-aggregate-replay-block
     replay-block-requires
     array-share-prefix-out
