@@ -34,7 +34,7 @@ impl Progress {
     }
 
     // The next block, with its refused lines.
-    pub fn take(self, s: &[u8], out: &mut [u8]) -> Taken
+    pub(crate) fn take(self, s: &[u8], out: &mut [u8]) -> Taken
         requires { ⌜ (length (now s) ≤ 65536) × (length (now out) ≡ 204800) × (self .next < 2 ^ 60) ⌝ }
         ensures read { λ r. ⌜ Reads self (now (s .entry)) (r .progress) ⌝ }
         ensures next { λ r. ⌜ r .progress .next ≡ self .next + length (now (s .entry)) / 16 ⌝ }
