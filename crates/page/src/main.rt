@@ -6,13 +6,13 @@ mod progress;
 
 ghost use mathlib.Core.Bool.{true};
 ghost use mathlib.Core.Path.{_≡_};
-ghost use Prim.Native.Nat.{_+_, _≤_, _<_, _^_};
+ghost use Prim.Native.Nat.{_+_, _<_, _^_};
 ghost use lib.ListN.{length};
 ghost use Rattle.page.specs.Progress.{Reads};
 use progress::Progress;
 
-// More blocks than any run takes: nothing else says that the input ends.
-const BLOCKS: u64 = 1_099_511_627_776;
+// More records than any input has: nothing else says that the input ends.
+const RECORDS: u64 = 4_503_599_627_370_496;
 
 // What a block of input left, and whether it was not the last.
 struct Turn {
@@ -24,7 +24,7 @@ struct Turn {
 // read.
 fn advance(p: Progress, fd: i32, block: &mut [u8], lines: &mut [u8]) -> Turn
     requires { ⌜ (length (now block) ≡ 65536) × (length (now lines) ≡ 204800) × (p .next < 2 ^ 60) ⌝ }
-    ensures next { λ r. ⌜ r .progress .next ≤ p .next + 4096 ⌝ }
+    ensures next { λ r. ⌜ (r .more ≡ true → r .progress .next ≡ p .next + 4096) ⌝ }
     ensures read { λ r. ⌜ (r .more ≡ true → Reads p (now (block .exit)) (r .progress)) ⌝ }
 {
     let filled = input::fill(fd, block);
@@ -60,17 +60,18 @@ fn advance(p: Progress, fd: i32, block: &mut [u8], lines: &mut [u8]) -> Turn
     }
 }
 
+// Block after block: each goes on from the records so far.
 fn run(fd: i32) {
     let mut block = io::large_buffer();
     let mut lines = output::lines();
     let mut progress = Progress::start();
-    let mut more = true;
-    let mut turn: u64 = 0;
-    while turn < BLOCKS && more {
-        let t = advance(progress, fd, &mut block, &mut lines);
-        progress = t.progress;
-        more = t.more;
-        turn += 1;
+    while progress.next < RECORDS {
+        let turn = advance(progress, fd, &mut block, &mut lines);
+        if turn.more {
+            progress = turn.progress;
+        } else {
+            return;
+        }
     }
 }
 

@@ -1,6 +1,5 @@
--- `advance`: a block has at most 4,096 records, and is read whole where there may be more.
+-- `advance`: where there may be more, a block is read whole, and has 4,096 records.
 use mathlib.Core.Path.{sym}
-use Prim.Native.Nat.{_+_, _≤_}
 use native.Mathlib.Omega.{arith}
 use lib.ListN.{length-take}
 use Rattle.page.proofs.Laws.{no-more}
@@ -22,7 +21,7 @@ same-length : tie.Need-same-length
 same-length c = search needs
 
 returns : tie.Need-returns
-returns c = (omega arith, (λ more. no-more more))
+returns c = ((λ more. no-more more), (λ more. no-more more))
 
 slice-reshare-prefix-take : tie.Need-slice-reshare-prefix-take
 slice-reshare-prefix-take c = search needs
@@ -34,15 +33,6 @@ take-requires : tie.Need-take-requires
 take-requires c κs =
     let filled = c .before .before .before .before .before .fill .ensures in
     (rw length-take (omega (arith, filled)), search needs, search needs)
-
--- the next record's number
-few :
-    (c : tie.After-take) →
-    let start = c .before .before .before .before .before .before .before .before .before .before in
-    c .take .result .progress .next ≤ start .args .p .next + 4096
-few c =
-    let filled = c .before .before .before .before .before .before .fill .ensures in
-    omega (arith, simp length-take at (c .take .ensures .1 .0), filled)
 
 slice-reshare-prefix-write : tie.Need-slice-reshare-prefix-write
 slice-reshare-prefix-write c = search needs
@@ -64,7 +54,7 @@ same-length-3 : tie.Need-same-length-3
 same-length-3 c = search needs
 
 returns-2 : tie.Need-returns-2
-returns-2 c = (few (c .before .before .before .before .before .before .before .before), (λ more. no-more more))
+returns-2 c = ((λ more. no-more more), (λ more. no-more more))
 
 same-length-4 : tie.Need-same-length-4
 same-length-4 c = search needs
@@ -77,7 +67,8 @@ returns-3 c =
     let taken = c .before .before .before .before .before .before .before in
     let filled = taken .before .before .before .before .before .before .fill in
     let all = take-all (filled .result .n) (filled .last .1 .0) (omega arith) in
-    (few taken, (λ more. rw all at (taken .take .ensures .0)))
+    let size = rw all at (taken .take .ensures .1 .0) in
+    ((λ more. omega (arith, size, filled .ensures)), (λ more. rw all at (taken .take .ensures .0)))
 
 same-length-6 : tie.Need-same-length-6
 same-length-6 c = search needs
@@ -86,7 +77,7 @@ same-length-7 : tie.Need-same-length-7
 same-length-7 c = search needs
 
 returns-4 : tie.Need-returns-4
-returns-4 c = (few (c .before .before .before .before .before .before), (λ more. no-more more))
+returns-4 c = ((λ more. no-more more), (λ more. no-more more))
 
 pub advance-spec : {M : Type 1} → statement M
 advance-spec =

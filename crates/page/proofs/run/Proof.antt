@@ -1,18 +1,17 @@
--- `run`: each turn brings at most 4,096 records.
+-- `run`: each turn but the last brings 4,096 records, so that handing them on is what ends the loop.
 use mathlib.Core.Path.{_≡_}
-use Prim.Native.Nat.{_-_, _*_, _≤_}
+use Prim.Native.Nat.{_-_}
+use native.Mathlib.Omega.{arith}
 use borrow.Author.Needs.{needs}
 use lib.ListN.{length}
-use Rattle.page.specs.Progress.{SoFar}
 use Rattle.page.proofs.run.Statement.{statement}
 use Rattle.page.proofs.run.Tie as tie
 
 abbrev Inv-loop : tie.InvT-loop
-Inv-loop fd block₀ lines₀ progress₀ more₀ turn₀ block lines progress more turn =
-    (length block ≡ 65536) × (length lines ≡ 204800) × (turn ≤ 1099511627776) × (progress .next ≤ 4096 * turn)
+Inv-loop fd block₀ lines₀ progress₀ block lines progress = (length block ≡ 65536) × (length lines ≡ 204800)
 
 abbrev μ-loop : tie.MeasureT-loop
-μ-loop fd block₀ lines₀ progress₀ more₀ turn₀ block lines progress more turn = 1099511627776 - turn
+μ-loop fd block₀ lines₀ progress₀ block lines progress = 4503599627370496 - progress .next
 
 large-buffer-requires : tie.Need-large-buffer-requires Inv-loop μ-loop
 large-buffer-requires c κs = search needs
@@ -35,11 +34,10 @@ slice-aggregate-advance-2 c = search needs
 advance-requires : tie.Need-advance-requires Inv-loop μ-loop
 advance-requires c κs = search needs
 
-add-turn : tie.Need-add-turn Inv-loop μ-loop
-add-turn c = search needs
-
 loop-less : tie.Need-loop-less Inv-loop μ-loop
-loop-less c = search needs
+loop-less c =
+    let turn = c .before .before .before .before .advance in
+    omega (arith, turn .ensures .0 (c .before .if2 .taken))
 
 loop-again : tie.Need-loop-again Inv-loop μ-loop
 loop-again c = search needs
@@ -63,7 +61,6 @@ run-spec =
     slice-aggregate-advance
     slice-aggregate-advance-2
     advance-requires
-    add-turn
     loop-less
     loop-again
     returns
