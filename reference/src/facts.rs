@@ -17,6 +17,9 @@ pub struct Event {
     pub stamp_unit: bool,
 }
 
+/// What stands in an event's place where there is none.
+pub(crate) const NO_EVENT: Event = Event { measured_latency: 0, stamp: NO_STAMP, stamp_unit: false };
+
 /// A completion that counts, with all that its own place says about it.
 #[derive(Clone, Copy, Debug)]
 pub(crate) struct Counted {

@@ -2,6 +2,7 @@
 
 use crate::events::{unnamed, Events, Preset, RECORD};
 use crate::history::{Settings, TIMESTAMP_TOP};
+use crate::pages;
 use crate::random::Random;
 use crate::vectors::{EventVector, Group, SettingsVector, Vectors};
 
@@ -9,12 +10,12 @@ const READ: u8 = 0x02;
 const WRITE: u8 = 0x01;
 const DEALLOCATE: u8 = 0x09;
 const KINDS: [u8; 3] = [READ, WRITE, DEALLOCATE];
-const LARGEST: u16 = 0x0FFF;
+pub(crate) const LARGEST: u16 = 0x0FFF;
 /// The records that the page program reads at a time.
 const BLOCK: usize = 4_096;
 
 pub fn groups() -> Vec<Group> {
-    vec![
+    let mut groups = vec![
         events("edges", edges()),
         events("thresholds", thresholds()),
         events("measured latencies", measured_latencies()),
@@ -36,7 +37,9 @@ pub fn groups() -> Vec<Group> {
         settings("settings lengths", settings_lengths()),
         settings("settings bytes", settings_bytes()),
         settings("settings fields", settings_fields()),
-    ]
+    ];
+    groups.extend(pages::groups());
+    groups
 }
 
 fn events(name: &'static str, files: Vec<Events>) -> Group {
@@ -57,26 +60,26 @@ fn plain(file: Events) -> EventVector {
 }
 
 /// The settings of the scope paper's example, without its trigger.
-fn base() -> Settings {
+pub(crate) fn base() -> Settings {
     Settings { timer_threshold: 2, thresholds: [0, 1, 3, 9], enable: 1, ..Settings::default() }
 }
 
-fn start(settings: Settings) -> Events {
+pub(crate) fn start(settings: Settings) -> Events {
     Events::default().settings(settings)
 }
 
 /// The opcode of a counter's kind.
-fn opcode(counter: usize) -> u8 {
+pub(crate) fn opcode(counter: usize) -> u8 {
     KINDS[counter % 3]
 }
 
 /// A latency in a counter's bucket, with thresholds 0, 1, 3, 9.
-fn latency(counter: usize) -> u32 {
+pub(crate) fn latency(counter: usize) -> u32 {
     [5_000, 10_000, 20_000, 50_000][counter / 3]
 }
 
 /// A completion for each counter, in the order of their numbers.
-fn each_counter(file: Events) -> Events {
+pub(crate) fn each_counter(file: Events) -> Events {
     (0..12).fold(file, |f, n| f.completion(opcode(n), latency(n) + 1_000 * n as u32 / 4))
 }
 
@@ -702,7 +705,7 @@ fn random_elapsed(random: &mut Random) -> u32 {
     }
 }
 
-fn random_timestamp(random: &mut Random) -> u64 {
+pub(crate) fn random_timestamp(random: &mut Random) -> u64 {
     match random.below(4) {
         0 => random.below(1_000_000),
         1 => TIMESTAMP_TOP - random.below(400_000),
@@ -735,7 +738,7 @@ fn random_event(random: &mut Random, file: Events) -> Events {
     }
 }
 
-fn random_mixture(random: &mut Random, records: u64) -> Events {
+pub(crate) fn random_mixture(random: &mut Random, records: u64) -> Events {
     let first = Settings { enable: 1, ..random_settings(random) };
     let file = if random.chance(90) { start(first) } else { Events::default() };
     (1..records).fold(file, |f, _| random_event(random, f))

@@ -7,7 +7,9 @@ pub mod groups;
 pub mod history;
 pub mod mixed;
 pub mod page;
+pub mod pages;
 pub mod random;
+pub mod reading;
 #[cfg(test)]
 mod tests;
 pub mod vectors;

@@ -3,6 +3,7 @@
 //!     reference vectors > FILE         the file of vectors
 //!     reference check < FILE           its groups, one a line, after reading it by the format
 //!     reference page < EVENTS          what the page program prints
+//!     reference listing < PAGE         what the listing prints
 //!     reference sample > EVENTS        the scope paper's example
 //!     reference mixed BYTES > EVENTS   a long event file for measurements
 //!     reference files FOLDER           each vector's event file, with what the page program prints for it
@@ -12,7 +13,7 @@ use std::io::{self, BufWriter, Read, Write};
 use std::process::ExitCode;
 
 use reference::vectors::Vectors;
-use reference::{events, groups, mixed, vectors};
+use reference::{events, groups, mixed, reading, vectors};
 
 fn main() -> ExitCode {
     let words: Vec<String> = std::env::args().skip(1).collect();
@@ -35,10 +36,11 @@ fn run(words: &[&str]) -> io::Result<()> {
             out.write_all(lines.as_bytes())?;
         }
         ["page"] => out.write_all(events::printed(&input()?).as_bytes())?,
+        ["listing"] => out.write_all(reading::listing(&input()?).as_bytes())?,
         ["sample"] => out.write_all(&groups::example().0)?,
         ["mixed", bytes] => mixed::write(bytes.parse().map_err(io::Error::other)?, &mut out)?,
         ["files", folder] => files(folder)?,
-        _ => return Err(io::Error::other("vectors, check, page, sample, mixed BYTES or files FOLDER")),
+        _ => return Err(io::Error::other("vectors, check, page, listing, sample, mixed BYTES or files FOLDER")),
     }
     out.flush()
 }

@@ -1,10 +1,30 @@
 //! The bytes of log page C3h and of the settings given back, from the facts of a history.
 
-use crate::facts::{facts, in_force, Facts, WindowFacts, COUNTERS, NO_STAMP};
+use crate::facts::{facts, in_force, Facts, WindowFacts, COUNTERS, NO_EVENT};
 use crate::history::{refusal, Call, Settings, PAGE_LENGTH};
 
-const VERSION: u16 = 0x0004;
-const GUID: u128 = 0x85D45E58D4E643709C6C84D08CC07A92;
+pub(crate) const VERSION: u16 = 0x0004;
+pub(crate) const GUID: u128 = 0x85D45E58D4E643709C6C84D08CC07A92;
+
+/// Where the block of the active window starts, and that of the static one.
+pub(crate) const BLOCKS: [usize; 2] = [32, 240];
+/// Where a block has its stamp units.
+pub(crate) const STAMP_UNITS: usize = 184;
+
+/// Where a block has a counter: by buckets, kinds from the last to the first, after four bytes that are zero.
+pub(crate) fn counter_place(counter: usize) -> usize {
+    16 * (counter / 3) + 12 - 4 * (counter % 3)
+}
+
+/// Where a block has a counter's stamp: from the last counter to the first.
+pub(crate) fn stamp_place(counter: usize) -> usize {
+    64 + 8 * (COUNTERS - 1 - counter)
+}
+
+/// Where a block has a counter's measured latency, in the order of the stamps.
+pub(crate) fn latency_place(counter: usize) -> usize {
+    160 + 2 * (COUNTERS - 1 - counter)
+}
 
 /// The page that ends a history, or the number by which it is turned away.
 pub fn page(history: &[Call], buffer_length: usize) -> Result<[u8; PAGE_LENGTH], u8> {
@@ -22,7 +42,7 @@ pub fn settings_back(history: &[Call], buffer_length: usize) -> Result<[u8; 13],
     }
 }
 
-fn put(page: &mut [u8], place: usize, bytes: &[u8]) {
+pub(crate) fn put(page: &mut [u8], place: usize, bytes: &[u8]) {
     page[place..place + bytes.len()].copy_from_slice(bytes);
 }
 
@@ -36,38 +56,30 @@ pub fn page_bytes(facts: &Facts) -> [u8; PAGE_LENGTH] {
     put(&mut page, 6, &settings.thresholds);
     put(&mut page, 10, &settings.mode.to_le_bytes());
     page[12] = settings.minimum_window;
-    put_window(&mut page, 32, &facts.active_window);
-    put_window(&mut page, 240, &facts.static_window);
+    put_window(&mut page[BLOCKS[0]..], &facts.active_window);
+    put_window(&mut page[BLOCKS[1]..], &facts.static_window);
+    let (source, event) = facts.debug_log.map_or((0, NO_EVENT), |(counter, event)| (1u16 << counter, event));
     put(&mut page, 448, &settings.debug_trigger.to_le_bytes());
-    put(&mut page, 452, &NO_STAMP.to_le_bytes());
-    if let Some((counter, event)) = facts.debug_log {
-        put(&mut page, 450, &event.measured_latency.to_le_bytes());
-        put(&mut page, 452, &event.stamp.to_le_bytes());
-        put(&mut page, 462, &(1u16 << counter).to_le_bytes());
-        page[464] = u8::from(event.stamp_unit);
-    }
+    put(&mut page, 450, &event.measured_latency.to_le_bytes());
+    put(&mut page, 452, &event.stamp.to_le_bytes());
+    put(&mut page, 462, &source.to_le_bytes());
+    page[464] = u8::from(event.stamp_unit);
     put(&mut page, 494, &VERSION.to_le_bytes());
     put(&mut page, 496, &GUID.to_le_bytes());
     page
 }
 
-/// A window's 186 bytes. Bucket counters stand in order of their bucket, kinds from the last to the first; stamps and
-/// measured latencies from the last counter to the first.
-fn put_window(page: &mut [u8], start: usize, window: &WindowFacts) {
+/// A window's block.
+fn put_window(block: &mut [u8], window: &WindowFacts) {
     let mut stamp_units = 0u16;
     for (counter, shown) in window.iter().enumerate() {
-        let (bucket, kind) = (counter / 3, counter % 3);
-        let from_last = COUNTERS - 1 - counter;
-        put(page, start + 16 * bucket + 12 - 4 * kind, &shown.count.to_le_bytes());
-        let stamp = shown.latest_load.map_or(NO_STAMP, |e| e.stamp);
-        put(page, start + 64 + 8 * from_last, &stamp.to_le_bytes());
-        let latency = shown.latest_load.map_or(0, |e| e.measured_latency);
-        put(page, start + 160 + 2 * from_last, &latency.to_le_bytes());
-        if shown.latest_load.is_some_and(|e| e.stamp_unit) {
-            stamp_units |= 1 << counter;
-        }
+        let event = shown.latest_load.unwrap_or(NO_EVENT);
+        put(block, counter_place(counter), &shown.count.to_le_bytes());
+        put(block, stamp_place(counter), &event.stamp.to_le_bytes());
+        put(block, latency_place(counter), &event.measured_latency.to_le_bytes());
+        stamp_units |= u16::from(event.stamp_unit) << counter;
     }
-    put(page, start + 184, &stamp_units.to_le_bytes());
+    put(block, STAMP_UNITS, &stamp_units.to_le_bytes());
 }
 
 /// Page bytes 0 to 479 as text, 16 a line, without the lines of zeros.

@@ -1,9 +1,12 @@
 use crate::answers::{answer, answers, Answer};
 use crate::events::{printed, read, record_answers, Events, Preset, Refused};
-use crate::facts::facts;
+use crate::facts::{facts, Facts};
 use crate::groups::{example, groups};
 use crate::history::{refusal, Call, Settings};
-use crate::page::{page, settings_back};
+use crate::page::{page, page_bytes, settings_back};
+use crate::pages;
+use crate::random::Random;
+use crate::reading::{listing, read_page, zero_places};
 use crate::vectors::{self, Vectors};
 
 const READ: u8 = 0x02;
@@ -197,12 +200,126 @@ fn counter_at_its_top() {
     }
 }
 
+/// What the reference writes it reads back as the facts behind it.
+#[test]
+fn written_pages_are_read() {
+    for group in groups() {
+        let Vectors::Events(vectors) = group.vectors else { continue };
+        for vector in vectors.iter().filter(|vector| vector.file.len() < 4_000) {
+            let behind = facts(&read(&vector.file, &vector.presets).0);
+            let page = page_bytes(&behind);
+            let settings = Settings { discard: 0, ..behind.settings };
+            assert_eq!(read_page(&page), Ok(Facts { settings, ..behind }));
+        }
+    }
+}
+
+/// What is accepted is written again as the same bytes, and every refusal is among damaged pages too.
+#[test]
+fn accepted_pages_are_written_again() {
+    let mut random = Random::new(77);
+    let mut answers = Vec::new();
+    for _ in 0..3_000 {
+        let page = pages::damaged_page(&mut random);
+        let answer = read_page(&page);
+        if let Ok(facts) = &answer {
+            assert_eq!(page_bytes(facts)[..], page);
+        }
+        answers.push(answer.err().unwrap_or(0));
+    }
+    for (answer, least) in [(0, 1_000), (13, 50), (14, 50), (15, 1_000)] {
+        assert!(answers.iter().filter(|&&a| a == answer).count() >= least);
+    }
+}
+
+/// The bytes that are zero on every page, by the numbers of the scope paper.
+#[test]
+fn zero_places_of_the_page() {
+    let blocks = [32, 48, 64, 80, 240, 256, 272, 288].map(|place| place..place + 4);
+    let others = [1..2, 13..32, 218..240, 426..448, 460..462, 465..494];
+    let mut expected: Vec<usize> = blocks.into_iter().chain(others).flatten().collect();
+    let mut places = zero_places();
+    expected.sort();
+    places.sort();
+    assert_eq!(places, expected);
+}
+
+#[test]
+fn refused_pages() {
+    let page = page_of(example());
+    let damaged = |changes: &[(usize, u8)]| {
+        let mut page = page;
+        changes.iter().for_each(|&(place, byte)| page[place] = byte);
+        read_page(&page).err()
+    };
+    assert_eq!(read_page(&page[..511]).err(), Some(13));
+    assert_eq!(read_page(&[&page[..], &[0]].concat()).err(), Some(13));
+    assert_eq!(damaged(&[]), None);
+    assert_eq!(damaged(&[(494, 3)]), Some(14));
+    assert_eq!(damaged(&[(511, 0x84)]), Some(14));
+    assert_eq!(damaged(&[(494, 3), (0, 2)]), Some(14));
+    assert_eq!(damaged(&[(0, 2)]), Some(15));
+    assert_eq!(damaged(&[(11, 0x10)]), Some(15));
+    assert_eq!(damaged(&[(60, 1)]), Some(15));
+    assert_eq!(damaged(&[(190, 1)]), Some(15));
+    assert_eq!(damaged(&[(462, 3)]), Some(15));
+    assert_eq!(damaged(&[(464, 2)]), Some(15));
+    // Nothing counted though the stamp is set, no latency of the debug log, and bytes that may hold anything.
+    assert_eq!(damaged(&[(44, 0)]), None);
+    assert_eq!(damaged(&[(450, 0)]), None);
+    assert_eq!(damaged(&[(2, 9), (5, 255), (6, 77), (12, 255)]), None);
+}
+
+#[test]
+fn listings() {
+    let page = page_of(example());
+    let expected = "0 1 0\n1 0 0\n2 0 0\n3 0 0\n4 0 0\n5 0 0\n6 0 0\n7 0 0\n8 0 0\n9 0 0\n10 0 0\n11 0 0\n";
+    assert_eq!(listing(&page), expected);
+    assert_eq!(listing(&page[1..]), "refused 13\n");
+    assert_eq!(listing(&[0; 512]), "refused 14\n");
+    let mut page = page;
+    page[264..268].fill(255);
+    assert_eq!(listing(&page), "refused 15\n");
+    page[360..368].fill(0);
+    assert_eq!(listing(&page), expected.replace("\n4 0 0\n", "\n4 0 4294967295\n"));
+}
+
+/// How many pages of each group are accepted, and how many are refused by 13, by 14 and by 15.
+#[test]
+fn groups_of_pages() {
+    let expected = [
+        ("pages after histories", [69, 0, 0, 0]),
+        ("pages of random fields", [32, 0, 0, 0]),
+        ("pages with free bytes", [28, 0, 0, 0]),
+        ("pages of other lengths", [0, 13, 0, 0]),
+        ("pages of other versions", [0, 0, 30, 0]),
+        ("pages with zero bytes changed", [0, 0, 0, 135]),
+        ("pages with bits of masks", [8, 0, 0, 20]),
+        ("pages with set stamps", [49, 0, 0, 72]),
+        ("pages with unset stamps", [24, 0, 0, 96]),
+        ("pages with a debug log", [38, 0, 0, 44]),
+        ("pages without a debug log", [2, 0, 0, 27]),
+        ("pages against several rules", [1, 18, 8, 10]),
+    ];
+    for (group, (name, numbers)) in pages::groups().iter().zip(expected) {
+        let Vectors::Pages(vectors) = &group.vectors else { panic!("not of pages") };
+        let answers: Vec<u8> = vectors.iter().map(|page| read_page(page).err().unwrap_or(0)).collect();
+        let count = |answer: u8| answers.iter().filter(|&&a| a == answer).count();
+        assert_eq!((group.name, [0, 13, 14, 15].map(count)), (name, numbers));
+    }
+}
+
 #[test]
 fn vectors_are_in_the_format() {
     let file = vectors::write(&groups());
-    assert!(file.len() < 2_000_000);
+    assert!(file.len() < 2_800_000);
     assert!(vectors::check(&file).is_ok());
     assert!(vectors::check(&file[..file.len() - 1]).is_err());
+    // The end of the last listing.
+    let mut wrong = file;
+    let place = wrong.len() - 2;
+    wrong[place] = b' ';
+    assert!(vectors::check(&wrong).is_err());
 }
 
 /// Refusals stand on both sides of a block's end, windows end there, and bytes are left over behind it.

@@ -2,7 +2,8 @@
 //!
 //! Numbers of several bytes have the lowest byte first. The file is a sequence of groups and then a byte 'E'. A group is
 //! - a byte 'G', a byte with the length of its name, the name (lower case words), and the number of its vectors (u32);
-//! - its vectors. In a group whose name starts with "settings" they are settings vectors, else event vectors.
+//! - its vectors. In a group whose name starts with "settings" they are settings vectors, in one whose name starts with
+//!   "pages" page vectors, else event vectors.
 //!
 //! An event vector, played on a new monitor, is
 //! - the length of an event file (u32, at most 131,072) and its bytes, also 1 to 15 after the last whole record;
@@ -26,15 +27,31 @@
 //!   place (u16, below the length) and the byte (u8);
 //! - the refusal (u8), 1 to 6 or 0; after 0 follow bytes 0 to 12 of the settings given back afterwards, and all others
 //!   are zero.
+//!
+//! A page vector is
+//! - the length of what is read as a page (u16, at most 4,200) and its bytes;
+//! - the refusal (u8), 13 to 15 or 0;
+//! - 389 bytes of fields, which after a refusal are those of a new monitor:
+//!   - timer threshold (u16), mode (u16), debug trigger (u16), thresholds A to D (4 bytes), minimum window (u8) and
+//!     enabled (u8, 0 or 1) of the settings, and the timer (u16);
+//!   - the active window and then the static one, each as 12 counts (u32), 12 stamps (u64), 12 measured latencies (u16)
+//!     and 12 stamp units (u8, 0 or 1), in the order of the counters' numbers;
+//!   - the debug log's stamp (u64), measured latency (u16), source (u16) and stamp unit (u8, 0 or 1), whether one is held
+//!     (u8, 0 or 1), and the number of its counter (u8, 0 if none is held);
+//! - the length of what the listing prints (u16) and its bytes.
 
 use crate::answers::Answer;
 use crate::events::{read, record_answers, refused_lines, Preset, RECORD};
-use crate::facts::COUNTERS;
+use crate::facts::{facts, Facts, WindowFacts, COUNTERS, NO_EVENT};
 use crate::history::{Call, PAGE_LENGTH};
 use crate::page::{page, settings_back};
+use crate::reading::{listing, read_page};
 
 pub const LONGEST_FILE: usize = 131_072;
 pub const LONGEST_BUFFER: u16 = 4_200;
+/// The fields of a page vector, and where they have the counts of the two windows.
+const FIELDS: usize = 389;
+const COUNTS: [usize; 2] = [14, 194];
 
 /// An event file and the lengths of the buffers that are lent after it.
 pub struct EventVector {
@@ -53,6 +70,8 @@ pub struct SettingsVector {
 pub enum Vectors {
     Events(Vec<EventVector>),
     Settings(Vec<SettingsVector>),
+    /// What is read as a page.
+    Pages(Vec<Vec<u8>>),
 }
 
 pub struct Group {
@@ -75,6 +94,10 @@ pub fn write(groups: &[Group]) -> Vec<u8> {
             Vectors::Settings(vectors) => {
                 out.extend((vectors.len() as u32).to_le_bytes());
                 vectors.iter().for_each(|v| write_settings(&mut out, v));
+            }
+            Vectors::Pages(vectors) => {
+                out.extend((vectors.len() as u32).to_le_bytes());
+                vectors.iter().for_each(|v| write_page(&mut out, v));
             }
         }
     }
@@ -134,6 +157,46 @@ fn write_settings(out: &mut Vec<u8>, vector: &SettingsVector) {
     }
 }
 
+fn write_page(out: &mut Vec<u8>, bytes: &[u8]) {
+    let (refusal, facts) = match read_page(bytes) {
+        Ok(facts) => (0, facts),
+        Err(number) => (number, facts(&[])),
+    };
+    out.extend((bytes.len() as u16).to_le_bytes());
+    out.extend(bytes);
+    out.push(refusal);
+    write_fields(out, &facts);
+    let text = listing(bytes);
+    out.extend((text.len() as u16).to_le_bytes());
+    out.extend(text.as_bytes());
+}
+
+fn write_fields(out: &mut Vec<u8>, facts: &Facts) {
+    let settings = &facts.settings;
+    for number in [settings.timer_threshold, settings.mode, settings.debug_trigger] {
+        out.extend(number.to_le_bytes());
+    }
+    out.extend(settings.thresholds);
+    out.extend([settings.minimum_window, settings.enable]);
+    out.extend(facts.timer.to_le_bytes());
+    write_window(out, &facts.active_window);
+    write_window(out, &facts.static_window);
+    let (counter, event) = facts.debug_log.unwrap_or((0, NO_EVENT));
+    let held = u8::from(facts.debug_log.is_some());
+    out.extend(event.stamp.to_le_bytes());
+    out.extend(event.measured_latency.to_le_bytes());
+    out.extend((u16::from(held) << counter).to_le_bytes());
+    out.extend([event.stamp_unit.into(), held, counter as u8]);
+}
+
+fn write_window(out: &mut Vec<u8>, window: &WindowFacts) {
+    let events = window.map(|shown| shown.latest_load.unwrap_or(NO_EVENT));
+    window.iter().for_each(|shown| out.extend(shown.count.to_le_bytes()));
+    events.iter().for_each(|event| out.extend(event.stamp.to_le_bytes()));
+    events.iter().for_each(|event| out.extend(event.measured_latency.to_le_bytes()));
+    events.iter().for_each(|event| out.push(event.stamp_unit.into()));
+}
+
 /// The refusal, or 0 and the bytes.
 fn write_answer<const N: usize>(out: &mut Vec<u8>, answer: &Result<[u8; N], u8>) {
     match answer {
@@ -168,6 +231,8 @@ fn check_group(reader: &mut Reader) -> Result<String, String> {
     for _ in 0..count {
         if name.starts_with("settings") {
             check_settings(reader)?;
+        } else if name.starts_with("pages") {
+            check_page(reader)?;
         } else {
             check_events(reader)?;
         }
@@ -256,6 +321,53 @@ fn check_settings(reader: &mut Reader) -> Result<(), String> {
         1..=6 => Ok(()),
         _ => reader.wrong("a refusal of settings"),
     }
+}
+
+/// 13 is due exactly when the length is not the right one. The fields stand there all the same.
+fn check_page(reader: &mut Reader) -> Result<(), String> {
+    let length = reader.u16()?;
+    if length > LONGEST_BUFFER {
+        return reader.wrong("a page too long");
+    }
+    reader.bytes(length.into())?;
+    let refusal = reader.u8()?;
+    if !matches!((refusal, usize::from(length) == PAGE_LENGTH), (13, false) | (0 | 14 | 15, true)) {
+        return reader.wrong("a page's refusal");
+    }
+    let fields = reader.bytes(FIELDS)?;
+    if !fields_fit(fields) || refusal != 0 && fields != new_fields() {
+        return reader.wrong("a page's fields");
+    }
+    let length = reader.u16()?;
+    let expected = if refusal == 0 { counts(fields) } else { format!("refused {refusal}\n") };
+    if reader.bytes(length.into())? != expected.as_bytes() {
+        return reader.wrong("what the listing prints");
+    }
+    Ok(())
+}
+
+/// What is yes or no is 0 or 1, and the source of a debug log is its counter's bit.
+fn fields_fit(fields: &[u8]) -> bool {
+    let flags = [11..12, 182..194, 362..374, 386..388];
+    let source = u16::from_le_bytes([fields[384], fields[385]]);
+    let (held, counter) = (fields[387], fields[388]);
+    flags.into_iter().all(|places| fields[places].iter().all(|&flag| flag <= 1))
+        && usize::from(counter) < if held == 1 { COUNTERS } else { 1 }
+        && source == u16::from(held) << counter
+}
+
+/// The fields of a new monitor.
+fn new_fields() -> Vec<u8> {
+    let mut fields = Vec::new();
+    write_fields(&mut fields, &facts(&[]));
+    fields
+}
+
+/// The counts among a page's fields as the listing prints them.
+fn counts(fields: &[u8]) -> String {
+    let count = |place: usize| u32::from_le_bytes(fields[place..place + 4].try_into().unwrap());
+    let line = |n: usize| format!("{n} {} {}\n", count(COUNTS[0] + 4 * n), count(COUNTS[1] + 4 * n));
+    (0..COUNTERS).map(line).collect()
 }
 
 struct Reader<'a> {
