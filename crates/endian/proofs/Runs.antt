@@ -1,11 +1,12 @@
 -- Laws of runs of stores, and of the lengths of what is stored.
-use mathlib.Core.List.{List, [], _∷_, _++_, append-nil}
+use mathlib.Core.List.{List, [], _∷_, _++_, append-assoc, append-nil}
 use mathlib.Core.Path.{_≡_, refl, sym, _∙_, ap}
-use Prim.Native.Nat.{ℕ, zero, suc, _+_, _≤_, _/_}
+use Prim.Native.Nat.{ℕ, zero, suc, _+_, _-_, _≤_, _/_}
 use native.Mathlib.Omega.{arith}
-use lib.ListN.{length, set, replicate}
-use lib.Seq.{sets, sets-eq, drop-length}
-use Rattle.endian.specs.Stores.{lowFirst}
+use borrow.Rule.Slice.PartMut.{putMid}
+use lib.ListN.{length, take, drop, set, length-append, length-drop, replicate}
+use lib.Seq.{sets, sets-eq, set-out, drop-length, drop-drop, length-take-le}
+use Rattle.endian.specs.Stores.{lowFirst, fields, total}
 
 -- one run after another is one run
 pub sets-append : (l : List ℕ) (i : ℕ) (a b : List ℕ) → sets l i (a ++ b) ≡ sets (sets l i a) (i + length a) b
@@ -15,6 +16,22 @@ sets-append l i [] b =
 sets-append l i (x ∷ a) b =
     let q : i + suc (length a) ≡ suc i + length a = omega arith in
     rw q (sets-append (set l i x) (suc i) a b)
+
+-- past the end nothing is stored
+pub sets-past : (l run : List ℕ) (i : ℕ) → length l ≤ i → sets l i run ≡ l
+sets-past l [] i h = refl
+sets-past l (x ∷ run) i h = rw (set-out l i x h) (sets-past l run (suc i) (omega arith))
+
+-- a part that is lent and comes back filled is a run of stores
+pub part-run :
+    (l part run : List ℕ) (at n : ℕ) →
+    at + n ≤ length l →
+    length run ≡ n →
+    part ≡ run →
+    putMid at n l part ≡ sets l at run
+part-run l part run at n h k e =
+    let b : at + length run ≤ length l = omega arith in
+    rw (e, sets-eq run l at b, append-assoc, drop-drop, k)
 
 -- a run is stored where the run before it ends
 pub run-more :
@@ -51,3 +68,39 @@ pub low-zeros : (n : ℕ) → lowFirst n 0 ≡ replicate n 0
 unfolding lowFirst
 low-zeros zero = refl
 low-zeros (suc n) = rw (low-zeros n)
+
+-- a part from a place to an end, k bytes, filled with a number or with a run
+part-length : (l : List ℕ) (at end k : ℕ) → end - at ≡ k → at + k ≤ length l → length (take (end - at) (drop at l)) ≡ k
+part-length l at end k e h = rw e (length-take-le k (drop at l) (omega (arith, length-drop at l)))
+
+pub put-part :
+    (l part : List ℕ) (at end k v : ℕ) →
+    end - at ≡ k →
+    at + k ≤ length l →
+    part ≡ lowFirst (length (take (end - at) (drop at l))) v →
+    putMid at (end - at) l part ≡ sets l at (lowFirst k v)
+put-part l part at end k v e h p =
+    let n = part-length l at end k e h in
+    rw e (part-run l part (lowFirst k v) at k h (length-low k v) (p ∙ rw n))
+
+pub run-part :
+    (l part run : List ℕ) (at end k : ℕ) →
+    end - at ≡ k →
+    at + k ≤ length l →
+    length run ≡ k →
+    part ≡ sets (take (end - at) (drop at l)) 0 run →
+    putMid at (end - at) l part ≡ sets l at run
+run-part l part run at end k e h m p =
+    let n = part-length l at end k e h in
+    let whole : sets (take (end - at) (drop at l)) 0 run ≡ run = sets-whole _ run (m ∙ sym n) in
+    rw e (part-run l part run at k h m (p ∙ whole))
+
+-- as many values as widths
+pub length-fields : (widths values : List ℕ) → length widths ≡ length values → length (fields widths values) ≡ total widths
+unfolding fields total
+length-fields [] [] h = refl
+length-fields [] (v ∷ values) h = refl
+length-fields (w ∷ widths) [] h = absurd (omega arith)
+length-fields (w ∷ widths) (v ∷ values) h =
+    length-append (lowFirst w v) (fields widths values)
+    ∙ omega (arith, length-low w v, length-fields widths values (omega arith))

@@ -3,6 +3,7 @@ mod loads;
 mod stores;
 
 pub use loads::load;
+pub use loads::load_fields;
 pub use stores::copy;
 pub use stores::put;
 pub use stores::put_fields;

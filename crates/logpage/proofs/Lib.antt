@@ -1,3 +1,2 @@
-pub mod Apart
-pub mod Places
+pub mod Lengths
 pub mod Table

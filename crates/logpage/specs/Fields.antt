@@ -1,11 +1,13 @@
 -- The plain fields of log page C3h.
 use mathlib.Core.Bool.{Bool, false}
-use mathlib.Core.List.{List}
-use Prim.Native.Nat.{ℕ}
-use lib.ListN.{replicate}
+use mathlib.Core.List.{List, [], _∷_}
+use mathlib.Core.Path.{_≡_}
+use Prim.Native.Nat.{ℕ, zero, suc, _<_}
+use lib.ListN.{length, getD, replicate}
 use Rattle.logpage.specs.declared.Settings.{Settings}
 use Rattle.logpage.specs.declared.Window.{Window}
 use Rattle.logpage.specs.declared.DebugLog.{DebugLog}
+use Rattle.logpage.specs.declared.page.LogPage.{LogPage}
 
 -- 01, The monitor's record: all ones stand for a stamp that is not set
 abbrev pub unset : ℕ
@@ -41,3 +43,41 @@ emptyWindow =
 -- 01, The monitor's record: no debug log is held (document 01: debug record); the unset stamp says so
 unfoldable pub noDebugLog : DebugLog
 noDebugLog = record { stamp = unset; latency = 0; source = 0; units = false }
+
+-- f i, f (i + 1), .., n of them; and f 0 to f 11, of the twelve counters
+unfoldable pub from : {A : Type 0} → (i n : ℕ) → (ℕ → A) → List A
+from i zero f = []
+from i (suc n) f = f i ∷ from (suc i) n f
+
+abbrev pub each : {A : Type 0} → (ℕ → A) → List A
+each f = from 0 12 f
+
+-- what the code's types hold
+pub record FitsSettings (s : Settings) : Type 0 where
+  pub threshold : s .«timer_threshold» < 65536
+  pub mode : s .mode < 65536
+  pub trigger : s .trigger < 65536
+  pub four : length (s .thresholds) ≡ 4
+  pub thresholds : (n : ℕ) → getD (s .thresholds) n 0 < 256
+  pub minimum : s .«minimum_window» < 256
+
+pub record FitsWindow (w : Window) : Type 0 where
+  pub twelve-counters : length (w .counters) ≡ 12
+  pub counters : (n : ℕ) → getD (w .counters) n 0 < 4294967296
+  pub twelve-stamps : length (w .stamps) ≡ 12
+  pub stamps : (n : ℕ) → getD (w .stamps) n 0 < 18446744073709551616
+  pub twelve-latencies : length (w .latencies) ≡ 12
+  pub latencies : (n : ℕ) → getD (w .latencies) n 0 < 65536
+  pub twelve-units : length (w .units) ≡ 12
+
+pub record FitsDebug (d : DebugLog) : Type 0 where
+  pub stamp : d .stamp < 18446744073709551616
+  pub latency : d .latency < 65536
+  pub source : d .source < 65536
+
+pub record Fits (p : LogPage) : Type 0 where
+  pub settings : FitsSettings (p .settings)
+  pub timer : p .timer < 65536
+  pub active : FitsWindow (p .«active_window»)
+  pub static : FitsWindow (p .«static_window»)
+  pub debug : FitsDebug (p .debug)

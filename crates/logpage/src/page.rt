@@ -10,12 +10,15 @@ use crate::Settings;
 use crate::Window;
 use crate::block;
 
+// The fields of bytes 0 to 12, of 448 to 464, and of 494 to 511, by their widths: for the writer and the reader.
+pub(crate) const HEAD_WIDTHS: [usize; 10] = [1, 1, 2, 2, 1, 1, 1, 1, 2, 1];
+
+pub(crate) const TAIL_WIDTHS: [usize; 6] = [2, 2, 8, 2, 2, 1];
+
+pub(crate) const IDENTITY_WIDTHS: [usize; 3] = [2, 8, 8];
+
 // Log Page Version, and Log Page GUID in two halves.
-const VERSION: u64 = 0x0004;
-
-const GUID_LOW: u64 = 0x9C6C_84D0_8CC0_7A92;
-
-const GUID_HIGH: u64 = 0x85D4_5E58_D4E6_4370;
+pub(crate) const IDENTITY: [u64; 3] = [0x0004, 0x9C6C_84D0_8CC0_7A92, 0x85D4_5E58_D4E6_4370];
 
 // What log page C3h shows.
 #[repr(C)]
@@ -34,7 +37,6 @@ fn write_head(page: &mut [u8], settings: Settings, timer: u16)
     ensures { λ _. ⌜ now (page .exit) ≡ sets (now (page .entry)) 0 (headBytes settings timer) ⌝ }
 {
     let thresholds = settings.thresholds;
-    let widths = [1, 1, 2, 2, 1, 1, 1, 1, 2, 1, 19];
     let values = [
         settings.enabled as u64,
         0,
@@ -46,9 +48,9 @@ fn write_head(page: &mut [u8], settings: Settings, timer: u16)
         thresholds[3] as u64,
         settings.mode as u64,
         settings.minimum_window as u64,
-        0,
     ];
-    endian::put_fields(page, 0, &widths, &values);
+    endian::put_fields(&mut page[0..13], &HEAD_WIDTHS, &values);
+    endian::put(&mut page[13..32], 0);
 }
 
 // Bytes 32 to 447.
@@ -57,9 +59,9 @@ fn write_windows(page: &mut [u8], active_window: Window, static_window: Window)
     ensures { λ _. ⌜ now (page .exit) ≡ sets (now (page .entry)) 32 (windowsBytes «active_window» «static_window») ⌝ }
 {
     block::write_block(&mut page[32..218], active_window);
-    endian::put(page, 218, 22, 0);
+    endian::put(&mut page[218..240], 0);
     block::write_block(&mut page[240..426], static_window);
-    endian::put(page, 426, 22, 0);
+    endian::put(&mut page[426..448], 0);
 }
 
 // Bytes 448 to 511.
@@ -67,7 +69,6 @@ fn write_tail(page: &mut [u8], trigger: u16, debug: DebugLog)
     requires { ⌜ length (now page) ≡ 512 ⌝ }
     ensures { λ _. ⌜ now (page .exit) ≡ sets (now (page .entry)) 448 (tailBytes trigger debug) ⌝ }
 {
-    let widths = [2, 2, 8, 2, 2, 1, 29, 2, 8, 8];
     let values = [
         trigger as u64,
         debug.latency as u64,
@@ -75,12 +76,10 @@ fn write_tail(page: &mut [u8], trigger: u16, debug: DebugLog)
         0,
         debug.source as u64,
         debug.units as u64,
-        0,
-        VERSION,
-        GUID_LOW,
-        GUID_HIGH,
     ];
-    endian::put_fields(page, 448, &widths, &values);
+    endian::put_fields(&mut page[448..465], &TAIL_WIDTHS, &values);
+    endian::put(&mut page[465..494], 0);
+    endian::put_fields(&mut page[494..512], &IDENTITY_WIDTHS, &IDENTITY);
 }
 
 impl LogPage {

@@ -1,102 +1,109 @@
 -- Laws of the page: its stores, one after the other.
-use mathlib.Core.List.{List, [], _∷_, _++_, append-assoc}
+use mathlib.Core.List.{List, _++_}
 use mathlib.Core.Path.{_≡_, refl, sym, _∙_, ap}
-use Prim.Native.Nat.{ℕ, _+_, _≤_}
+use Prim.Native.Nat.{ℕ, _+_, _-_, _≤_}
 use native.Mathlib.Omega.{arith}
 use borrow.Rule.Slice.PartMut.{putMid}
-use lib.ListN.{length, getD, length-append}
-use lib.Seq.{sets, sets-eq, length-sets, drop-drop}
+use lib.ListN.{length, take, drop, length-append}
+use lib.Seq.{sets, length-sets}
 use Rattle.endian.specs.Stores.{lowFirst, fields}
-use Rattle.endian.proofs.Runs.{low-zeros, run-more, sets-whole}
-use Rattle.logpage.specs.Block.{zeros, flag, blockBytes}
-use Rattle.logpage.specs.Page.{headBytes, windowsBytes, tailBytes, pageBytes}
+use Rattle.endian.proofs.Runs.{low-zeros, part-run, put-part, run-part, run-more, sets-whole}
+use Rattle.logpage.specs.Block.{zeros, blockBytes}
+use Rattle.logpage.specs.Page.{headWidths, headValues, headBytes, windowsBytes, tailWidths, tailValues, tailBytes}
+use Rattle.logpage.specs.Page.{identityWidths, identityValues, pageBytes}
 use Rattle.logpage.specs.declared.DebugLog.{DebugLog}
 use Rattle.logpage.specs.declared.Settings.{Settings}
 use Rattle.logpage.specs.declared.Window.{Window}
 use Rattle.logpage.specs.declared.page.LogPage.{LogPage}
-use Rattle.logpage.proofs.Places.{length-block, length-head, length-windows, length-page}
+use Rattle.logpage.proofs.Lengths.{length-block, length-head, length-head-fields, length-windows, length-tail-fields}
+use Rattle.logpage.proofs.Lengths.{length-identity, length-page}
 
--- the first and the last bytes as fields
-abbrev pub headWidths : List ℕ
-headWidths = 1 ∷ 1 ∷ 2 ∷ 2 ∷ 1 ∷ 1 ∷ 1 ∷ 1 ∷ 2 ∷ 1 ∷ 19 ∷ []
+-- after a run of stores, zeros in the part behind it
+zeros-more :
+    (page cur part before : List ℕ) (base at n : ℕ) →
+    at ≡ base + length before →
+    at + n ≤ length cur →
+    cur ≡ sets page base before →
+    part ≡ lowFirst (length (take n (drop at cur))) 0 →
+    putMid at n cur part ≡ sets page base (before ++ zeros n)
+zeros-more page cur part before base at n p h e e′ =
+    let k : at + n - at ≡ n = omega arith in
+    let put : putMid at n cur part ≡ sets cur at (lowFirst n 0) =
+    rw k at (put-part cur part at (at + n) n 0 k h (rw k e′))
+    in
+    run-more page cur _ before (zeros n) base at p e (put ∙ rw (low-zeros n))
 
-abbrev pub headValues : Settings → ℕ → List ℕ
-headValues s timer =
-    let threshold : ℕ → ℕ = λ n. getD (s .thresholds) n 0 in
-    flag (s .enabled)
-    ∷ 0
-    ∷ timer
-    ∷ s .«timer_threshold»
-    ∷ threshold 0
-    ∷ threshold 1
-    ∷ threshold 2
-    ∷ threshold 3
-    ∷ s .mode
-    ∷ s .«minimum_window»
-    ∷ 0
-    ∷ []
-
-pub head-fields : (s : Settings) (timer : ℕ) → fields headWidths (headValues s timer) ≡ headBytes s timer
-unfolding fields lowFirst headBytes
-head-fields s timer = refl
-
-abbrev pub tailWidths : List ℕ
-tailWidths = 2 ∷ 2 ∷ 8 ∷ 2 ∷ 2 ∷ 1 ∷ 29 ∷ 2 ∷ 8 ∷ 8 ∷ []
-
-abbrev pub tailValues : ℕ → DebugLog → List ℕ
-tailValues trigger d =
-    trigger
-    ∷ d .latency
-    ∷ d .stamp
-    ∷ 0
-    ∷ d .source
-    ∷ flag (d .units)
-    ∷ 0
-    ∷ 0x0004
-    ∷ 0x9C6C84D08CC07A92
-    ∷ 0x85D45E58D4E64370
-    ∷ []
-
-pub tail-fields : (trigger : ℕ) (d : DebugLog) → fields tailWidths (tailValues trigger d) ≡ tailBytes trigger d
-unfolding fields lowFirst tailBytes
-tail-fields trigger d = refl
-
--- a block that is lent and comes back filled is a run of stores in the page
-part-run :
-    (page part : List ℕ) (w : Window) (a : ℕ) →
-    a + 186 ≤ length page →
-    part ≡ blockBytes w →
-    putMid a 186 page part ≡ sets page a (blockBytes w)
-part-run page part w a h e =
-    let n = length-block w in
-    let b : a + length (blockBytes w) ≤ length page = omega arith in
-    rw (e, sets-eq (blockBytes w) page a b, append-assoc, drop-drop, n)
+-- fields, and zeros after them
+pub head-run :
+    (s : Settings) (timer : ℕ) (page part₁ part₂ : List ℕ) →
+    length page ≡ 512 →
+    part₁ ≡ sets (take 13 page) 0 (fields headWidths (headValues s timer)) →
+    part₂ ≡ lowFirst (length (take 19 (drop 13 (putMid 0 13 page part₁)))) 0 →
+    putMid 13 19 (putMid 0 13 page part₁) part₂ ≡ sets page 0 (headBytes s timer)
+unfolding headBytes
+head-run s timer page part₁ part₂ h e₁ e₂ =
+    let first : List ℕ = fields headWidths (headValues s timer) in
+    let n₁ = length-head-fields s timer in
+    let r₁ = run-part page part₁ first 0 13 13 refl (omega arith) n₁ e₁ in
+    let k₁ : length (putMid 0 13 page part₁) ≡ 512 = ap length r₁ ∙ length-sets page 0 first ∙ h in
+    zeros-more page _ part₂ first 0 13 19 (omega arith) (omega arith) r₁ e₂
 
 -- the two blocks, and the zeros after each
 pub windows-run :
-    (active static : Window) (page b₁ s₂ b₃ s₄ : List ℕ) →
+    (active static : Window) (page b₁ z₂ b₃ z₄ : List ℕ) →
     length page ≡ 512 →
     b₁ ≡ blockBytes active →
-    s₂ ≡ sets (putMid 32 186 page b₁) 218 (lowFirst 22 0) →
+    let s₁ = putMid 32 186 page b₁ in
+    z₂ ≡ lowFirst (length (take 22 (drop 218 s₁))) 0 →
+    let s₂ = putMid 218 22 s₁ z₂ in
     b₃ ≡ blockBytes static →
-    s₄ ≡ sets (putMid 240 186 s₂ b₃) 426 (lowFirst 22 0) →
-    s₄ ≡ sets page 32 (windowsBytes active static)
+    let s₃ = putMid 240 186 s₂ b₃ in
+    z₄ ≡ lowFirst (length (take 22 (drop 426 s₃))) 0 →
+    putMid 426 22 s₃ z₄ ≡ sets page 32 (windowsBytes active static)
 unfolding windowsBytes
-windows-run active static page b₁ s₂ b₃ s₄ h e₁ e₂ e₃ e₄ =
+windows-run active static page b₁ z₂ b₃ z₄ h e₁ e₂ e₃ e₄ =
     let first : List ℕ = blockBytes active in
     let to-240 : List ℕ = first ++ zeros 22 in
     let to-426 : List ℕ = to-240 ++ blockBytes static in
+    let s₁ : List ℕ = putMid 32 186 page b₁ in
+    let s₂ : List ℕ = putMid 218 22 s₁ z₂ in
+    let s₃ : List ℕ = putMid 240 186 s₂ b₃ in
     let n₁ = length-block active in
     let n₂ : length to-240 ≡ 208 = simp (length-append, length-block) in
     let n₃ : length to-426 ≡ 394 = simp (length-append, length-block) in
-    let z₂ = rw (low-zeros 22) at e₂ in
-    let z₄ = rw (low-zeros 22) at e₄ in
-    let r₁ = part-run page b₁ active 32 (omega arith) e₁ in
-    let r₂ = run-more page _ s₂ first (zeros 22) 32 218 (omega arith) r₁ z₂ in
+    let r₁ = part-run page b₁ first 32 186 (omega arith) n₁ e₁ in
+    let k₁ : length s₁ ≡ 512 = ap length r₁ ∙ length-sets page 32 first ∙ h in
+    let r₂ = zeros-more page s₁ z₂ first 32 218 22 (omega arith) (omega arith) r₁ e₂ in
     let k₂ : length s₂ ≡ 512 = ap length r₂ ∙ length-sets page 32 to-240 ∙ h in
-    let p₃ = part-run s₂ b₃ static 240 (omega arith) e₃ in
-    let r₃ = run-more page s₂ _ to-240 (blockBytes static) 32 240 (omega arith) r₂ p₃ in
-    run-more page _ s₄ to-426 (zeros 22) 32 426 (omega arith) r₃ z₄
+    let p₃ = part-run s₂ b₃ (blockBytes static) 240 186 (omega arith) (length-block static) e₃ in
+    let r₃ = run-more page s₂ s₃ to-240 (blockBytes static) 32 240 (omega arith) r₂ p₃ in
+    let k₃ : length s₃ ≡ 512 = ap length r₃ ∙ length-sets page 32 to-426 ∙ h in
+    zeros-more page s₃ z₄ to-426 32 426 22 (omega arith) (omega arith) r₃ e₄
+
+-- fields, zeros, version and GUID
+pub tail-run :
+    (trigger : ℕ) (d : DebugLog) (page part₁ part₂ part₃ : List ℕ) →
+    length page ≡ 512 →
+    part₁ ≡ sets (take 17 (drop 448 page)) 0 (fields tailWidths (tailValues trigger d)) →
+    let s₁ = putMid 448 17 page part₁ in
+    part₂ ≡ lowFirst (length (take 29 (drop 465 s₁))) 0 →
+    let s₂ = putMid 465 29 s₁ part₂ in
+    part₃ ≡ sets (take 18 (drop 494 s₂)) 0 (fields identityWidths identityValues) →
+    putMid 494 18 s₂ part₃ ≡ sets page 448 (tailBytes trigger d)
+unfolding tailBytes
+tail-run trigger d page part₁ part₂ part₃ h e₁ e₂ e₃ =
+    let first : List ℕ = fields tailWidths (tailValues trigger d) in
+    let to-494 : List ℕ = first ++ zeros 29 in
+    let s₁ : List ℕ = putMid 448 17 page part₁ in
+    let s₂ : List ℕ = putMid 465 29 s₁ part₂ in
+    let n₁ = length-tail-fields trigger d in
+    let n₂ : length to-494 ≡ 46 = simp (length-append, length-tail-fields) in
+    let r₁ = run-part page part₁ first 448 465 17 refl (omega arith) n₁ e₁ in
+    let k₁ : length s₁ ≡ 512 = ap length r₁ ∙ length-sets page 448 first ∙ h in
+    let r₂ = zeros-more page s₁ part₂ first 448 465 29 (omega arith) (omega arith) r₁ e₂ in
+    let k₂ : length s₂ ≡ 512 = ap length r₂ ∙ length-sets page 448 to-494 ∙ h in
+    let r₃ = run-part s₂ part₃ (fields identityWidths identityValues) 494 512 18 refl (omega arith) length-identity e₃ in
+    run-more page s₂ _ to-494 (fields identityWidths identityValues) 448 494 (omega arith) r₂ r₃
 
 -- head, windows and tail
 pub page-run :

@@ -15,11 +15,11 @@ Inv-loop s i₀ n₀ i n = (i ≤ 8) × (i ≤ length s) × (n ≡ number (take 
 abbrev μ-loop : tie.MeasureT-loop
 μ-loop s i₀ n₀ i n = i
 
-at-most-eight-requires : tie.Need-at-most-eight-requires Inv-loop μ-loop
-at-most-eight-requires c κs = search needs
+lower-requires : tie.Need-lower-requires Inv-loop μ-loop
+lower-requires c κs = search needs
 
 loop-holds : tie.Need-loop-holds Inv-loop μ-loop
-loop-holds c = (search needs, search needs, none-left _ _ (c .at-most-eight .ensures))
+loop-holds c = (search needs, search needs, none-left _ _ (c .lower .ensures))
 
 sub-i : tie.Need-sub-i Inv-loop μ-loop
 sub-i c = search needs
@@ -70,7 +70,7 @@ load-spec =
     (tie.spec
     Inv-loop
     μ-loop
-    at-most-eight-requires
+    lower-requires
     loop-holds
     sub-i
     shared-slice-read-wide

@@ -4,19 +4,22 @@ use Prim.Native.Nat.{_≤_, _-_}
 use borrow.Author.Needs.{needs}
 use lib.ListN.{length, drop}
 use lib.Seq.{sets}
-use Rattle.endian.proofs.Runs.{sets-whole}
 use Rattle.endian.proofs.stores.Laws.{copy-more, copy-end}
 use Rattle.endian.proofs.stores.copy.Statement.{statement}
 use Rattle.endian.proofs.stores.copy.Tie as tie
 
 abbrev Inv-loop : tie.InvT-loop
-Inv-loop s₀ from i₀ s i = (i ≤ length from) × (length s ≡ length s₀) × (sets s i (drop i from) ≡ from)
+Inv-loop s₀ from n i₀ s i =
+    (i ≤ n) × (length s ≡ length s₀) × (sets s i (drop i from) ≡ sets s₀ 0 from)
 
 abbrev μ-loop : tie.MeasureT-loop
-μ-loop s₀ from i₀ s i = length from - i
+μ-loop s₀ from n i₀ s i = n - i
+
+lower-requires : tie.Need-lower-requires Inv-loop μ-loop
+lower-requires c κs = search needs
 
 loop-holds : tie.Need-loop-holds Inv-loop μ-loop
-loop-holds c = (search needs, search needs, sets-whole (c .args .s .now) (c .args .from .now) (search needs))
+loop-holds c = search needs
 
 shared-slice-read-s : tie.Need-shared-slice-read-s Inv-loop μ-loop
 shared-slice-read-s c = search needs
@@ -31,13 +34,19 @@ loop-less : tie.Need-loop-less Inv-loop μ-loop
 loop-less c = search needs
 
 loop-again : tie.Need-loop-again Inv-loop μ-loop
-loop-again c = (search needs, search needs, copy-more _ _ _ _ (c .before .loop-test .taken) (c .before .before .loop .inv .2))
+loop-again c =
+    let at-loop = c .before .before in
+    let from = at-loop .before .before .before .before .args .from .now in
+    (search needs, search needs, copy-more _ from _ (at-loop .loop .i) (search needs) (at-loop .loop .inv .2))
 
 same-length : tie.Need-same-length Inv-loop μ-loop
 same-length c = search needs
 
 returns : tie.Need-returns Inv-loop μ-loop
-returns c = copy-end _ _ _ _ (c .loop-test .left) (c .before .loop .inv .2)
+returns c =
+    let at-loop = c .before in
+    let from = at-loop .before .before .before .before .args .from .now in
+    copy-end _ from _ (at-loop .loop .i) (search needs) (at-loop .loop .inv .2)
 
 pub copy-spec : {M : Type 1} → statement M
 copy-spec =
@@ -45,6 +54,7 @@ copy-spec =
     (tie.spec
     Inv-loop
     μ-loop
+    lower-requires
     loop-holds
     shared-slice-read-s
     slice-write-s

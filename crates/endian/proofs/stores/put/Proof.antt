@@ -1,6 +1,6 @@
 -- `put`: what is left of the number, stored from here, gives the whole.
 use mathlib.Core.Path.{_≡_}
-use Prim.Native.Nat.{_≤_, _+_, _-_}
+use Prim.Native.Nat.{_≤_, _-_}
 use borrow.Author.Needs.{needs}
 use lib.ListN.{length}
 use lib.Seq.{sets}
@@ -10,20 +10,17 @@ use Rattle.endian.proofs.stores.put.Statement.{statement}
 use Rattle.endian.proofs.stores.put.Tie as tie
 
 abbrev Inv-loop : tie.InvT-loop
-Inv-loop s₀ at n v x₀ i₀ s x i =
-    (i ≤ n) × (length s ≡ length s₀) × (sets s (at + i) (lowFirst (n - i) x) ≡ sets s₀ at (lowFirst n v))
+Inv-loop s₀ v x₀ i₀ s x i =
+    (i ≤ length s₀) × (length s ≡ length s₀) × (sets s i (lowFirst (length s₀ - i) x) ≡ lowFirst (length s₀) v)
 
 abbrev μ-loop : tie.MeasureT-loop
-μ-loop s₀ at n v x₀ i₀ s x i = n - i
+μ-loop s₀ v x₀ i₀ s x i = length s₀ - i
 
 loop-holds : tie.Need-loop-holds Inv-loop μ-loop
-loop-holds c = (search needs, search needs, put-start (c .args .s .now) (c .args .at) (c .args .n) (c .args .v))
+loop-holds c = (search needs, search needs, put-start (c .args .s .now) (c .args .v))
 
 cast-s : tie.Need-cast-s Inv-loop μ-loop
 cast-s c = search needs
-
-add-s : tie.Need-add-s Inv-loop μ-loop
-add-s c = search needs
 
 slice-write-s : tie.Need-slice-write-s Inv-loop μ-loop
 slice-write-s c = search needs
@@ -35,13 +32,13 @@ loop-less : tie.Need-loop-less Inv-loop μ-loop
 loop-less c = search needs
 
 loop-again : tie.Need-loop-again Inv-loop μ-loop
-loop-again c = (search needs, search needs, put-more _ _ _ _ _ _ (c .loop-test .taken) (c .before .loop .inv .2))
+loop-again c = (search needs, search needs, put-more _ _ _ _ _ (search needs) (c .before .loop .inv .2))
 
 same-length : tie.Need-same-length Inv-loop μ-loop
 same-length c = search needs
 
 returns : tie.Need-returns Inv-loop μ-loop
-returns c = put-end _ _ _ _ _ _ (c .loop-test .left) (c .before .loop .inv .2)
+returns c = put-end _ _ _ _ _ (search needs) (c .before .loop .inv .2)
 
 pub put-spec : {M : Type 1} → statement M
 put-spec =
@@ -51,7 +48,6 @@ put-spec =
     μ-loop
     loop-holds
     cast-s
-    add-s
     slice-write-s
     add-i
     loop-less

@@ -1,9 +1,9 @@
 -- `put_bucket`: its four fields are the bucket's bytes.
-use mathlib.Core.Path.{_∙_, ap}
+use mathlib.Core.List.{[], _∷_}
+use mathlib.Core.Path.{sym, _∙_}
 use borrow.Author.Needs.{needs}
-use lib.Seq.{sets}
-use Rattle.endian.specs.Stores.{total}
-use Rattle.logpage.proofs.block.Laws.{bucket-fields}
+use Rattle.endian.proofs.Runs.{sets-whole}
+use Rattle.logpage.proofs.Lengths.{length-column}
 use Rattle.logpage.proofs.block.put_bucket.Statement.{statement}
 use Rattle.logpage.proofs.block.put_bucket.Tie as tie
 
@@ -14,7 +14,6 @@ slice-aggregate-put-fields-2 : tie.Need-slice-aggregate-put-fields-2
 slice-aggregate-put-fields-2 c = search needs
 
 put-fields-requires : tie.Need-put-fields-requires
-unfolding total
 put-fields-requires c κs = search needs
 
 same-length : tie.Need-same-length
@@ -24,8 +23,8 @@ returns : tie.Need-returns
 returns c =
     let start = c .before .before .before .before .before .before .before in
     c .before .before .put-fields .ensures
-    ∙ ap (sets (start .args .block .now) (start .args .at))
-    (bucket-fields (start .args .deallocate) (start .args .write) (start .args .read))
+    ∙ sets-whole (start .args .bucket .now) _
+    (length-column 4 (0 ∷ start .args .deallocate ∷ start .args .write ∷ start .args .read ∷ []) ∙ sym (start .pre))
 
 pub put-bucket-spec : {M : Type 1} → statement M
 put-bucket-spec =

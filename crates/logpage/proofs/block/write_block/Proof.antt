@@ -13,6 +13,15 @@ put-stamps-requires c κs = search needs
 put-latencies-requires : tie.Need-put-latencies-requires
 put-latencies-requires c κs = search needs
 
+sub-put : tie.Need-sub-put
+sub-put c = search needs
+
+part-put-start : tie.Need-part-put-start
+part-put-start c = search needs
+
+part-put-end : tie.Need-part-put-end
+part-put-end c = search needs
+
 unit-bits-requires : tie.Need-unit-bits-requires
 unit-bits-requires c κs = search needs
 
@@ -43,6 +52,9 @@ write-block-spec =
     put-counters-requires
     put-stamps-requires
     put-latencies-requires
+    sub-put
+    part-put-start
+    part-put-end
     unit-bits-requires
     put-requires
     same-length

@@ -1,9 +1,6 @@
 -- `write_head`: its fields are the bytes.
-use mathlib.Core.Path.{_∙_, ap}
 use borrow.Author.Needs.{needs}
-use lib.Seq.{sets}
-use Rattle.endian.specs.Stores.{total}
-use Rattle.logpage.proofs.page.Laws.{head-fields}
+use Rattle.logpage.proofs.page.Laws.{head-run}
 use Rattle.logpage.proofs.page.write_head.Statement.{statement}
 use Rattle.logpage.proofs.page.write_head.Tie as tie
 
@@ -43,6 +40,15 @@ cast-t26 c = search needs
 cast-t27 : tie.Need-cast-t27
 cast-t27 c = search needs
 
+sub-put-fields : tie.Need-sub-put-fields
+sub-put-fields c = search needs
+
+part-put-fields-start : tie.Need-part-put-fields-start
+part-put-fields-start c = search needs
+
+part-put-fields-end : tie.Need-part-put-fields-end
+part-put-fields-end c = search needs
+
 slice-aggregate-put-fields : tie.Need-slice-aggregate-put-fields
 slice-aggregate-put-fields c = search needs
 
@@ -50,17 +56,29 @@ slice-aggregate-put-fields-2 : tie.Need-slice-aggregate-put-fields-2
 slice-aggregate-put-fields-2 c = search needs
 
 put-fields-requires : tie.Need-put-fields-requires
-unfolding total
 put-fields-requires c κs = search needs
+
+sub-put : tie.Need-sub-put
+sub-put c = search needs
+
+part-put-start : tie.Need-part-put-start
+part-put-start c = search needs
+
+part-put-end : tie.Need-part-put-end
+part-put-end c = search needs
+
+put-requires : tie.Need-put-requires
+put-requires c κs = search needs
 
 same-length : tie.Need-same-length
 same-length c = search needs
 
 returns : tie.Need-returns
 returns c =
-    let start = c .before .before .before .before .before .before .before .before .before .before .before .before in
-    c .before .before .put-fields .ensures
-    ∙ ap (sets (start .args .page .now) 0) (head-fields (start .args .settings) (start .args .timer))
+    let start = c .before .before .before .before .before .before .before .before .before .before .before .before .before .before .before .before in
+    head-run (start .args .settings) (start .args .timer) (start .args .page .now) _ _ (start .pre)
+    (c .before .before .before .before .before .before .put-fields .ensures)
+    (c .before .before .put .ensures)
 
 pub write-head-spec : {M : Type 1} → statement M
 write-head-spec =
@@ -78,8 +96,15 @@ write-head-spec =
     cast-t25
     cast-t26
     cast-t27
+    sub-put-fields
+    part-put-fields-start
+    part-put-fields-end
     slice-aggregate-put-fields
     slice-aggregate-put-fields-2
     put-fields-requires
+    sub-put
+    part-put-start
+    part-put-end
+    put-requires
     same-length
     returns)

@@ -16,6 +16,15 @@ part-write-block-end c = search needs
 write-block-requires : tie.Need-write-block-requires
 write-block-requires c κs = search needs
 
+sub-put : tie.Need-sub-put
+sub-put c = search needs
+
+part-put-start : tie.Need-part-put-start
+part-put-start c = search needs
+
+part-put-end : tie.Need-part-put-end
+part-put-end c = search needs
+
 put-requires : tie.Need-put-requires
 put-requires c κs = search needs
 
@@ -30,6 +39,15 @@ part-write-block-end-2 c = search needs
 
 write-block-requires-2 : tie.Need-write-block-requires-2
 write-block-requires-2 c κs = search needs
+
+sub-put-2 : tie.Need-sub-put-2
+sub-put-2 c = search needs
+
+part-put-start-2 : tie.Need-part-put-start-2
+part-put-start-2 c = search needs
+
+part-put-end-2 : tie.Need-part-put-end-2
+part-put-end-2 c = search needs
 
 put-requires-2 : tie.Need-put-requires-2
 put-requires-2 c κs = search needs
@@ -58,11 +76,17 @@ write-windows-spec =
     part-write-block-start
     part-write-block-end
     write-block-requires
+    sub-put
+    part-put-start
+    part-put-end
     put-requires
     sub-write-block-2
     part-write-block-start-2
     part-write-block-end-2
     write-block-requires-2
+    sub-put-2
+    part-put-start-2
+    part-put-end-2
     put-requires-2
     same-length
     returns)
