@@ -3,15 +3,16 @@ use mathlib.Core.Bool.{Bool, true, false, _&&_, false≢true}
 use mathlib.Core.List.{List, [], _∷_, _++_, append-assoc}
 use mathlib.Core.Path.{_≡_, refl, sym, _∙_, ap}
 use Prim.Native.Nat.{ℕ, zero, suc, _+_, _*_, _/_, _%_, _^_, _<_, _≤_, min}
-use native.Mathlib.Nat.{pow-succ'}
+use native.Mathlib.Nat.{pow-succ', pow-le-pow-right, lt-of-lt-of-le}
 use native.Mathlib.Omega.{arith}
 use borrow.Author.Tests.{leb-true}
 use lib.Dec.{leb}
-use lib.ListN.{length, take, drop, length-append, length-take, length-drop}
+use lib.ListN.{length, getD, take, drop, length-append, length-drop}
 use lib.Seq.{take-at, drop-at, take-add, drop-drop, length-take-le}
 use Rattle.endian.specs.Bytes.{Bytes}
 use Rattle.endian.specs.Loads.{number, part, valuesAt}
 use Rattle.endian.specs.Stores.{lowFirst, fields, total}
+use Rattle.endian.proofs.Numbers.{below}
 use Rattle.endian.proofs.Runs.{length-low}
 
 -- one number
@@ -30,7 +31,16 @@ low-number (x ∷ l) b =
     let high : (x + 256 * number l) / 256 ≡ number l = omega (arith, b .0) in
     rw (low, high) (ap (λ m. x ∷ m) (low-number l (b .1)))
 
--- parts of bytes are bytes
+-- bytes, by their places; and parts of bytes are bytes
+pub byte-at : (l : List ℕ) → Bytes l → (k : ℕ) → getD l k 0 < 256
+byte-at [] b k = omega arith
+byte-at (x ∷ l) b zero = b .0
+byte-at (x ∷ l) b (suc k) = byte-at l (b .1) k
+
+pub are-bytes : (l : List ℕ) → ((k : ℕ) → getD l k 0 < 256) → Bytes l
+are-bytes [] h = tt
+are-bytes (x ∷ l) h = (h 0, are-bytes l (λ k. h (suc k)))
+
 pub bytes-take : (n : ℕ) (l : List ℕ) → Bytes l → Bytes (take n l)
 bytes-take zero l b = tt
 bytes-take (suc n) [] b = tt
@@ -53,6 +63,19 @@ narrow-first w widths e = by (leb w 8) refl e
     by : (t : Bool) → leb w 8 ≡ t → (t && narrow widths) ≡ true → (w ≤ 8) × (narrow widths ≡ true)
     by true h k = (leb-true w 8 h, k)
     by false h k = absurd (false≢true k)
+
+-- no value that is read has more bytes than its field
+pub bounded :
+    (widths bytes : List ℕ) (at : ℕ) →
+    Bytes bytes →
+    (k : ℕ) →
+    getD (valuesAt at widths bytes) k 0 < 256 ^ getD widths k 0
+unfolding valuesAt
+bounded [] bytes at b k = omega arith
+bounded (w ∷ widths) bytes at b zero =
+    lt-of-lt-of-le (below (drop at bytes) (byte-at (drop at bytes) (bytes-drop at bytes b)) (min w 8))
+    (pow-le-pow-right {n = 256} (omega arith) {i = min w 8} {j = w} (omega arith))
+bounded (w ∷ widths) bytes at b (suc k) = bounded widths bytes (at + w) b k
 
 -- as many values as widths, each of no more bytes than its width
 infixr 60 _▸_

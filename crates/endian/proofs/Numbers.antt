@@ -1,6 +1,6 @@
 -- Laws of the number that bytes make.
-use mathlib.Core.Path.{_≡_, refl}
-use mathlib.Core.Bool.{Bool, true, false, not, _||_}
+use mathlib.Core.Path.{_≡_, refl, ap, _∙_}
+use mathlib.Core.Bool.{Bool, true, false, not, _||_, true≢false}
 use mathlib.Core.List.{List, [], _∷_, _++_}
 use Prim.Native.Nat.{ℕ, zero, suc, _+_, _-_, _*_, _^_, _<_, _≤_, min}
 use native.Mathlib.Nat.{not-suc-le-zero, pow-succ', one-le-pow, pow-le-pow-right, lt-of-lt-of-le}
@@ -8,10 +8,10 @@ use native.Mathlib.Numerals.{sub-one}
 use native.Mathlib.Omega.{arith}
 use borrow.Author.Tests.{eq-eqb, eqb-true, eqb-false, ltb-true, ltb-false}
 use lib.Dec.{eqb, ltb}
-use lib.ListN.{length, getD, take, drop, drop-of-length-le}
-use lib.Seq.{take-nil, drop-cons, getD-drop}
+use lib.ListN.{length, getD, take, drop, drop-of-length-le, length-take}
+use lib.Seq.{take-all, take-nil, drop-cons, getD-drop}
 use Rattle.endian.specs.Bytes.{anySet}
-use Rattle.endian.specs.Loads.{number}
+use Rattle.endian.specs.Loads.{number, part}
 
 -- a number is zero where no byte is set, and only there
 pub zero-clear : (l : List ℕ) → number l ≡ 0 → anySet l ≡ false
@@ -64,6 +64,32 @@ pub fits : (s : List ℕ) (i : ℕ) → ((k : ℕ) → getD s k 0 < 256) → num
 fits s i bytes =
     lt-of-lt-of-le (below (drop i s) (λ k. rw (getD-drop i s k 0) (bytes (i + k))) (8 - i))
     (pow-le-pow-right {n = 256} (omega arith) {i = 8 - i} {j = 8} (omega arith))
+
+-- w bytes from a place on: what a load takes of them, and that it fits as many bytes
+module _ (s : List ℕ) (at place w v : ℕ) (p : at ≡ place) (h : w ≤ 8)
+    (e : v ≡ number (take 8 (take (at + w - at) (drop at s)))) where
+  pub loaded : v ≡ number (part place w s)
+  loaded =
+      let n : at + w - at ≡ w = omega arith in
+      e ∙ rw (n, p) (ap number (take-all 8 (part place w s) (omega (arith, length-take w (drop place s)))))
+
+  pub loaded-fits : ((k : ℕ) → getD s k 0 < 256) → v < 256 ^ w
+  loaded-fits bytes = rw loaded (below (drop place s) (λ k. rw (getD-drop place s k 0) (bytes (place + k))) w)
+
+-- bytes of which none is set make zero
+pub clear-zero : (l : List ℕ) → anySet l ≡ false → number l ≡ 0
+unfolding number anySet
+clear-zero [] e = refl
+clear-zero (b ∷ bs) e = by (eqb b 0) refl e (clear-zero bs)
+  where
+    by :
+        (t : Bool) →
+        eqb b 0 ≡ t →
+        (not t || anySet bs) ≡ false →
+        (anySet bs ≡ false → number bs ≡ 0) →
+        b + 256 * number bs ≡ 0
+    by true h q rest = omega (arith, eqb-true b 0 h, rest q)
+    by false h q rest = absurd (true≢false q)
 
 -- a byte of two lists is set where one of either is
 set-append : (a b : List ℕ) → anySet (a ++ b) ≡ (anySet a || anySet b)

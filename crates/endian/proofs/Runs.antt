@@ -52,7 +52,7 @@ pub run-left :
 run-left cur next goal run rest at after p e e′ = rw (e′, p) (sym (sets-append cur at run rest) ∙ e)
 
 -- a run that covers the whole list leaves nothing of it
-pub sets-whole : (l run : List ℕ) → length run ≡ length l → sets l 0 run ≡ run
+pub sets-whole : {A : Type 0} (l run : List A) → length run ≡ length l → sets l 0 run ≡ run
 sets-whole l run h =
     let b : 0 + length run ≤ length l = omega arith in
     let n : 0 + length run ≡ length l = omega arith in

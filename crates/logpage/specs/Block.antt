@@ -60,7 +60,11 @@ blockBytes w = fields blockWidths (blockValues w)
 abbrev pub column : (width : ℕ) → List ℕ → List ℕ
 column width values = fields (replicate (length values) width) values
 
--- the place in the block of counter n's stamp, and of its measured latency: counter 11 comes first
+-- the place in the block of counter n: the three of a bucket stand behind its first four bytes, Read last
+abbrev pub counterPlace : ℕ → ℕ
+counterPlace n = 16 * (n / 3) + 4 * (3 - n % 3)
+
+-- the place of counter n's stamp, and of its measured latency: counter 11 comes first
 abbrev pub stampPlace : ℕ → ℕ
 stampPlace n = 64 + 8 * (11 - n)
 

@@ -8,13 +8,13 @@ ghost use Rattle.logpage.specs.Block.{stampPlace, latencyPlace, buckets,
 use crate::Window;
 
 // Where each counter has its latency stamp in the block, by the counter's number.
-const STAMP_PLACES: [usize; 12] = [152, 144, 136, 128, 120, 112, 104, 96, 88, 80, 72, 64];
+pub(crate) const STAMP_PLACES: [usize; 12] = [152, 144, 136, 128, 120, 112, 104, 96, 88, 80, 72, 64];
 
 // Where each counter has its measured latency.
-const LATENCY_PLACES: [usize; 12] = [182, 180, 178, 176, 174, 172, 170, 168, 166, 164, 162, 160];
+pub(crate) const LATENCY_PLACES: [usize; 12] = [182, 180, 178, 176, 174, 172, 170, 168, 166, 164, 162, 160];
 
 // A bucket's fields: reserved, Deallocate, Write, Read.
-pub(crate) const BUCKET_WIDTHS: [usize; 4] = [4; 4];
+const BUCKET_WIDTHS: [usize; 4] = [4; 4];
 
 fn stamp_place(n: usize) -> usize
     requires { ⌜ n < 12 ⌝ }

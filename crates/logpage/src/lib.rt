@@ -1,8 +1,15 @@
 // The plain fields of log page C3h (source document 001, 4.8.9). Names of 001 are given where they differ.
+mod answers;
 mod block;
+mod block_reader;
 mod page;
+mod reader;
+mod refusals;
 
+pub use answers::Answer;
 pub use page::LogPage;
+pub use reader::PageRead;
+pub use reader::Reading;
 ghost use mathlib.Core.Path.{_≡_};
 ghost use Rattle.logpage.specs.Fields.{noSettings, windowOf, emptyWindow, noDebugLog};
 

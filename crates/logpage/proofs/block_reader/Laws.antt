@@ -1,0 +1,106 @@
+-- Laws of the block's reader: arrays filled one by one, and tests asked one by one.
+use mathlib.Core.Bool.{Bool, true, false, not, _&&_}
+use mathlib.Core.List.{List, [], _∷_}
+use mathlib.Core.Path.{_≡_, refl}
+use Prim.Native.Nat.{ℕ, zero, suc, _+_, _-_, _/_, _%_, _<_, _≤_}
+use native.Mathlib.Numerals.{add-one}
+use native.Mathlib.Omega.{arith}
+use lib.Dec.{eqb, ltb}
+use lib.ListN.{length, set}
+use lib.Seq.{sets}
+use Rattle.endian.specs.Bytes.{anySet}
+use Rattle.endian.specs.Loads.{number, part, valuesAt}
+use Rattle.endian.proofs.Runs.{sets-whole}
+use Rattle.logpage.specs.Answers.{passes}
+use Rattle.logpage.specs.Block.{flags, counterPlace, stampPlace, latencyPlace}
+use Rattle.logpage.specs.BlockReader.{windowIn, windowFits, blockKeeps}
+use Rattle.logpage.specs.Fields.{windowOf, from, each}
+use Rattle.logpage.specs.declared.Window.{Window}
+
+-- an array of twelve: what is left, stored from here, gives the whole
+module _ {A : Type 0} (f : ℕ → A) where
+  pub fill-start : (l : List A) → length l ≡ 12 → sets l 0 (from 0 (12 - 0) f) ≡ each f
+  unfolding from
+  fill-start l h = sets-whole l (each f) (rw h)
+
+  pub fill-more :
+      (l goal : List A) (n : ℕ) (x : A) →
+      n < 12 →
+      x ≡ f n →
+      sets l n (from n (12 - n) f) ≡ goal →
+      sets (set l n x) (n + 1) (from (n + 1) (12 - (n + 1)) f) ≡ goal
+  unfolding from
+  fill-more l goal n x h e k =
+      let p : 12 - n ≡ suc (12 - suc n) = omega arith in
+      rw (add-one, e) (rw p at k)
+
+  pub fill-end : (l goal : List A) (n : ℕ) → 12 ≤ n → sets l n (from n (12 - n) f) ≡ goal → l ≡ goal
+  unfolding from
+  fill-end l goal n h k =
+      let p : 12 - n ≡ 0 = omega arith in
+      rw p at k
+
+-- the flags of a mask, from the lowest on
+pub flags-start : (l : List Bool) (mask : ℕ) → length l ≡ 12 → sets l 0 (flags (12 - 0) mask) ≡ flags 12 mask
+unfolding flags
+flags-start l mask h = sets-whole l (flags 12 mask) (rw h)
+
+pub flags-more :
+    (l goal : List Bool) (n rest : ℕ) →
+    n < 12 →
+    sets l n (flags (12 - n) rest) ≡ goal →
+    sets (set l n (eqb (rest % 2) 1)) (n + 1) (flags (12 - (n + 1)) (rest / 2)) ≡ goal
+unfolding flags
+flags-more l goal n rest h k =
+    let p : 12 - n ≡ suc (12 - suc n) = omega arith in
+    rw add-one (rw p at k)
+
+pub flags-end : (l goal : List Bool) (n rest : ℕ) → 12 ≤ n → sets l n (flags (12 - n) rest) ≡ goal → l ≡ goal
+unfolding flags
+flags-end l goal n rest h k =
+    let p : 12 - n ≡ 0 = omega arith in
+    rw p at k
+
+-- twelve tests: those that are left, asked from here, give the answer
+module _ (test : ℕ → Bool) where
+  pub tests-more :
+      (so-far answer : Bool) (n : ℕ) (passed : Bool) →
+      n < 12 →
+      passed ≡ test n →
+      passes so-far (from n (12 - n) test) ≡ answer →
+      passes (so-far && passed) (from (n + 1) (12 - (n + 1)) test) ≡ answer
+  unfolding from
+  tests-more so-far answer n passed h e k =
+      let p : 12 - n ≡ suc (12 - suc n) = omega arith in
+      rw (add-one, e) (rw p at k)
+
+  pub tests-end : (so-far answer : Bool) (n : ℕ) → 12 ≤ n → passes so-far (from n (12 - n) test) ≡ answer → so-far ≡ answer
+  unfolding from
+  tests-end so-far answer n h k =
+      let p : 12 - n ≡ 0 = omega arith in
+      rw p at k
+
+-- the arrays that were read by their places are those of the window
+pub block-read :
+    (block counters stamps latencies : List ℕ) (mask : ℕ) (units : List Bool) →
+    counters ≡ each (λ n. number (part (counterPlace n) 4 block)) →
+    stamps ≡ each (λ n. number (part (stampPlace n) 8 block)) →
+    latencies ≡ each (λ n. number (part (latencyPlace n) 2 block)) →
+    mask ≡ number (part 184 2 block) →
+    units ≡ flags 12 mask →
+    windowOf counters stamps latencies units ≡ windowIn block
+unfolding windowIn from valuesAt
+block-read block counters stamps latencies mask units c s l m u = rw (c, s, l, u, m)
+
+-- the rules of a block, one by one
+pub block-kept :
+    (block : List ℕ) (w : Window) (a b c d fits : Bool) (mask : ℕ) →
+    a ≡ anySet (part 0 4 block) →
+    b ≡ anySet (part 16 4 block) →
+    c ≡ anySet (part 32 4 block) →
+    d ≡ anySet (part 48 4 block) →
+    mask ≡ number (part 184 2 block) →
+    fits ≡ windowFits w →
+    (((((not a && not b) && not c) && not d) && ltb mask 4096) && fits) ≡ blockKeeps block w
+unfolding blockKeeps valuesAt
+block-kept block w a b c d fits mask ea eb ec ed em ef = rw (ea, eb, ec, ed, em, ef)
