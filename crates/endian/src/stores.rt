@@ -30,7 +30,11 @@ pub(crate) fn end_of(place: usize, width: usize, len: usize) -> usize
     requires { ⌜ place ≤ len ⌝ }
     ensures { λ r. ⌜ r ≡ min (place + width) len ⌝ }
 {
-    if width < len - place { place + width } else { len }
+    if width < len - place {
+        place + width
+    } else {
+        len
+    }
 }
 
 // Stores fields one after the other from the slice's start on, as far as they have room.

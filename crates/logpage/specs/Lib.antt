@@ -4,3 +4,4 @@ pub mod Block
 pub mod Page
 pub mod BlockReader
 pub mod Reader
+pub mod Claims

@@ -8,10 +8,36 @@ ghost use Rattle.logpage.specs.Block.{stampPlace, latencyPlace, buckets,
 use crate::Window;
 
 // Where each counter has its latency stamp in the block, by the counter's number.
-pub(crate) const STAMP_PLACES: [usize; 12] = [152, 144, 136, 128, 120, 112, 104, 96, 88, 80, 72, 64];
+pub(crate) const STAMP_PLACES: [usize; 12] = [
+    152,
+    144,
+    136,
+    128,
+    120,
+    112,
+    104,
+    96,
+    88,
+    80,
+    72,
+    64,
+];
 
 // Where each counter has its measured latency.
-pub(crate) const LATENCY_PLACES: [usize; 12] = [182, 180, 178, 176, 174, 172, 170, 168, 166, 164, 162, 160];
+pub(crate) const LATENCY_PLACES: [usize; 12] = [
+    182,
+    180,
+    178,
+    176,
+    174,
+    172,
+    170,
+    168,
+    166,
+    164,
+    162,
+    160,
+];
 
 // A bucket's fields: reserved, Deallocate, Write, Read.
 const BUCKET_WIDTHS: [usize; 4] = [4; 4];
@@ -47,7 +73,12 @@ fn put_counters(block: &mut [u8], counters: [u32; 12])
     while b < 4 {
         let n = 3 * b;
         let at = 16 * b;
-        put_bucket(&mut block[at..at + 16], counters[n + 2], counters[n + 1], counters[n]);
+        put_bucket(
+            &mut block[at..at + 16],
+            counters[n + 2],
+            counters[n + 1],
+            counters[n],
+        );
         b += 1;
     }
 }

@@ -97,12 +97,7 @@ fn settings_from(head: [u64; 10], tail: [u64; 6]) -> Settings
     requires { ⌜ Bounded headWidths head × Bounded tailWidths tail ⌝ }
     ensures { λ r. ⌜ r ≡ settingsFrom head tail ⌝ }
 {
-    let thresholds = [
-        head[4] as u8,
-        head[5] as u8,
-        head[6] as u8,
-        head[7] as u8,
-    ];
+    let thresholds = [head[4] as u8, head[5] as u8, head[6] as u8, head[7] as u8];
     Settings {
         timer_threshold: head[3] as u16,
         mode: head[8] as u16,
@@ -170,7 +165,10 @@ fn tail_fits(tail: [u64; 6]) -> bool
     requires { ⌜ Bounded tailWidths tail ⌝ }
     ensures { λ r. ⌜ r ≡ tailFits tail ⌝ }
 {
-    (tail[0] < block_reader::MASK_END) & (tail[3] == 0) & (tail[5] < 2) & debug_fits(debug_from(tail))
+    (tail[0] < block_reader::MASK_END)
+        & (tail[3] == 0)
+        & (tail[5] < 2)
+        & debug_fits(debug_from(tail))
 }
 
 // Whether the layout's rules are kept, where the page's values and windows were read.
