@@ -1,9 +1,9 @@
 -- Laws of text that is stored in a buffer.
-use mathlib.Core.List.{List, _++_}
-use mathlib.Core.Path.{_≡_, ap, _∙_}
-use Prim.Native.Nat.{ℕ, zero, suc, _+_, _-_, _≤_}
+use mathlib.Core.List.{List, [], _∷_, _++_}
+use mathlib.Core.Path.{_≡_, refl, ap, _∙_}
+use Prim.Native.Nat.{ℕ, zero, suc, _+_, _-_, _*_, _≤_}
 use native.Mathlib.Omega.{arith}
-use lib.ListN.{length, drop, replicate, length-append, length-replicate}
+use lib.ListN.{length, set, drop, replicate, length-append, length-replicate}
 use lib.Seq.{sets-eq, length-sets}
 use Rattle.endian.proofs.Runs.{run-more}
 use Rattle.text.specs.Stored.{Stored, padded}
@@ -29,6 +29,31 @@ stored-more {a} {b} {before} {mid} {after} {at} {next} s e t =
       exact = rw length-append (omega (arith, s .exact, t .exact));
       within = omega (arith, s .within, t .within);
     }
+
+-- one text more, where each has the same room
+pub stored-next :
+    {a b before mid after : List ℕ} {at next tookA tookB : ℕ} (room n : ℕ) →
+    Stored a at (room * n) before mid tookA →
+    next ≡ at + tookA →
+    Stored b next room mid after tookB →
+    Stored (a ++ b) at (room * suc n) before after (tookA + tookB)
+stored-next room n s e t =
+    let rooms : room * suc n ≡ room * n + room = omega arith in
+    rw rooms (stored-more s e t)
+
+-- the same text in more room
+pub stored-within :
+    {t before after : List ℕ} {at less room took r : ℕ} →
+    Stored t at less before after took →
+    r ≡ took →
+    less ≤ room →
+    Stored t at room before after r
+stored-within s e le =
+    record { content = s .content; exact = e ∙ s .exact; within = omega (arith, s .within) }
+
+-- a single byte
+pub byte-stored : (s : List ℕ) (at b : ℕ) → Stored (b ∷ []) at 1 s (set s at b) 1
+byte-stored s at b = record { content = refl; exact = refl; within = omega arith }
 
 drop-replicate : (n m : ℕ) → drop n (replicate {A = ℕ} m 0) ≡ replicate (m - n) 0
 drop-replicate zero m =

@@ -1,3 +1,4 @@
 pub mod Stored
 pub mod Lines
 pub mod Pages
+pub mod Listing

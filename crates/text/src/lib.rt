@@ -1,9 +1,13 @@
-// What the programs print: refused lines, and a page in hex.
+// What the programs print: refused lines, a page in hex, and a page's counters.
 mod lines;
+mod listing;
 mod pages;
 
 pub use lines::Line;
 pub use lines::no_line;
 pub use lines::refused_record;
+pub use listing::Listing;
+pub use listing::counts_listing;
+pub use listing::refused_listing;
 pub use pages::Text;
 pub use pages::page_text;

@@ -59,19 +59,27 @@ fn put_digits(out: &mut [u8], at: usize, k: usize, n: u64)
     }
 }
 
+// Stores a number in decimal, and says how many bytes it took.
+pub(crate) fn put_decimal(out: &mut [u8], at: usize, n: u64) -> usize
+    requires { ⌜ at + 20 ≤ length (now out) ⌝ }
+    ensures { λ r. ⌜ Stored (decimal n) at 20 (now (out .entry)) (now (out .exit)) r ⌝ }
+{
+    let k = width(n);
+    put_digits(out, at, k, n);
+    k
+}
+
 // Stores a space and a number, and says how many bytes they took.
 fn put_number(out: &mut [u8], at: usize, n: u64) -> usize
     requires { ⌜ at + 21 ≤ length (now out) ⌝ }
     ensures { λ r. ⌜ Stored (32 ∷ decimal n) at 21 (now (out .entry)) (now (out .exit)) r ⌝ }
 {
-    let k = width(n);
     out[at] = b' ';
-    put_digits(out, at + 1, k, n);
-    k + 1
+    put_decimal(out, at + 1, n) + 1
 }
 
 // Stores each number behind a space, and says how many bytes they took.
-fn put_numbers(out: &mut [u8], at: usize, numbers: &[u64]) -> usize
+pub(crate) fn put_numbers(out: &mut [u8], at: usize, numbers: &[u64]) -> usize
     requires { ⌜ at + 21 * length (now numbers) ≤ length (now out) ⌝ }
     ensures { λ r. ⌜ NumbersStored (now (numbers .entry)) at (now (out .entry)) (now (out .exit)) r ⌝ }
 {
@@ -85,7 +93,7 @@ fn put_numbers(out: &mut [u8], at: usize, numbers: &[u64]) -> usize
 }
 
 // Stores a refused line with these numbers, and says how many bytes it took.
-fn put_refused(out: &mut [u8], at: usize, numbers: &[u64]) -> usize
+pub(crate) fn put_refused(out: &mut [u8], at: usize, numbers: &[u64]) -> usize
     requires { ⌜ at + (8 + 21 * length (now numbers)) ≤ length (now out) ⌝ }
     ensures { λ r. ⌜ LineStored (now (numbers .entry)) at (now (out .entry)) (now (out .exit)) r ⌝ }
 {

@@ -11,7 +11,7 @@ use Rattle.endian.proofs.Runs.{sets-append}
 use Rattle.text.specs.declared.lines.Line.{Line}
 use Rattle.text.specs.Lines.{digits, widthWithin, decimal, spaced, refusedWord, refusedLine, asLine}
 use Rattle.text.specs.Stored.{Stored}
-use Rattle.text.proofs.Storing.{stored-more, in-zeros}
+use Rattle.text.proofs.Storing.{stored-more, stored-next, stored-within, byte-stored, in-zeros}
 
 -- bytes that are copied, from the i-th on: nothing is stored yet; one is stored; nothing is left
 pub text-start : (s text : List ℕ) (at : ℕ) → sets s (at + 0) (drop 0 text) ≡ sets s at text
@@ -104,20 +104,22 @@ unfolding digits
 digits-end s goal at zero rest h e = e
 digits-end s goal at (suc i) rest h e = absurd (omega arith)
 
--- a space and a number
-pub number-stored :
+-- a number in decimal; a number behind a space
+pub decimal-stored :
     (s after : List ℕ) (at k n : ℕ) →
     (k ≡ widthWithin 19 n) × (k ≤ 20) →
-    after ≡ sets (set s at 32) (at + 1) (digits k n) →
-    Stored (32 ∷ decimal n) at 21 s after (k + 1)
+    after ≡ sets s at (digits k n) →
+    Stored (decimal n) at 20 s after k
 unfolding decimal
-number-stored s after at k n (width, le) e =
-    let next : at + 1 ≡ suc at = omega arith in
-    record {
-      content = rw (← width) (rw next at e);
-      exact = rw (← width) (omega (arith, length-digits k n));
-      within = omega arith;
-    }
+decimal-stored s after at k n (width, le) e =
+    record { content = rw (← width) e; exact = rw (← width) (sym (length-digits k n)); within = le }
+
+pub number-stored :
+    (s after : List ℕ) (at k n : ℕ) →
+    Stored (decimal n) (at + 1) 20 (set s at 32) after k →
+    Stored (32 ∷ decimal n) at 21 s after (k + 1)
+number-stored s after at k n a =
+    stored-within (stored-more (byte-stored s at 32) refl a) (omega arith) (omega arith)
 
 -- one number more
 spaced-more : (numbers : List ℕ) (n : ℕ) → spaced (numbers ++ (n ∷ [])) ≡ spaced numbers ++ (32 ∷ decimal n)
@@ -132,8 +134,7 @@ pub numbers-more :
     Stored (32 ∷ decimal (getD numbers i 0)) (at + took) 21 mid after more →
     Stored (spaced (take (i + 1) numbers)) at (21 * (i + 1)) s after (took + more)
 numbers-more numbers s mid after at i took more h a b =
-    let room : 21 * (i + 1) ≡ 21 * i + 21 = omega arith in
-    rw (room, add-one i, take-suc numbers i 0 h, spaced-more) (stored-more a refl b)
+    rw (add-one i, take-suc numbers i 0 h, spaced-more) (stored-next 21 i a refl b)
 
 pub numbers-end :
     (numbers s after : List ℕ) (at i took : ℕ) →
@@ -145,7 +146,16 @@ numbers-end numbers s after at i took le ge a =
     let all : i ≡ length numbers = omega arith in
     rw (take-all i numbers ge, all) at a
 
--- the word, the numbers and the newline
+-- the numbers and the newline end a line, whatever it begins with
+pub line-ended :
+    (begun numbers s s₁ s₂ : List ℕ) (at room k took : ℕ) →
+    Stored begun at room s s₁ k →
+    Stored (spaced numbers) (at + k) (21 * length numbers) s₁ s₂ took →
+    Stored (begun ++ spaced numbers ++ (10 ∷ [])) at (room + 21 * length numbers + 1) s
+    (set s₂ (at + k + took) 10) (k + took + 1)
+line-ended begun numbers s s₁ s₂ at room k took a b =
+    stored-more (stored-more a refl b) (omega arith) (byte-stored s₂ (at + k + took) 10)
+
 pub line-refused :
     (numbers s s₁ s₂ : List ℕ) (at took : ℕ) →
     s₁ ≡ sets s at refusedWord →
@@ -154,11 +164,7 @@ pub line-refused :
 unfolding refusedLine refusedWord
 line-refused numbers s s₁ s₂ at took e a =
     let word : Stored refusedWord at 7 s s₁ 7 = record { content = e; exact = refl; within = omega arith } in
-    let newline : Stored (10 ∷ []) (at + 7 + took) 1 s₂ (set s₂ (at + 7 + took) 10) 1 =
-    record { content = refl; exact = refl; within = omega arith }
-    in
-    let line = stored-more word refl (stored-more a refl newline) in
-    record { content = line .content; exact = omega (arith, line .exact); within = omega (arith, line .within) }
+    stored-within (line-ended _ numbers _ _ _ _ _ _ _ word a) (omega arith) (omega arith)
 
 pub as-line :
     (t bytes : List ℕ) (r : ℕ) →

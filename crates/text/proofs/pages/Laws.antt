@@ -13,7 +13,7 @@ use Rattle.endian.proofs.Runs.{run-more}
 use Rattle.text.specs.declared.pages.Text.{Text}
 use Rattle.text.specs.Pages.{hexDigit, hexOffset, hexBytes, line, shownLine, lineAt, lines, asText}
 use Rattle.text.specs.Stored.{Stored}
-use Rattle.text.proofs.Storing.{stored-more, in-zeros}
+use Rattle.text.proofs.Storing.{stored-next, in-zeros}
 
 -- the offset's five stores
 pub offset-run :
@@ -124,8 +124,7 @@ pub lines-step :
     → Stored (lines page (n + 1)) 0 (38 * (n + 1)) out₀ next (at + r)
 unfolding lines
 lines-step page out₀ out next n at r s t =
-    let room : 38 * (n + 1) ≡ 38 * n + 38 = omega arith in
-    rw (room, add-one) (stored-more s (omega arith) t)
+    rw add-one (stored-next 38 n s (omega arith) t)
 
 -- the text in its room
 pub as-text :

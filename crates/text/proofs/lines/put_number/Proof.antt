@@ -7,25 +7,20 @@ use Rattle.text.proofs.lines.Laws.{number-stored}
 use Rattle.text.proofs.lines.put_number.Statement.{statement}
 use Rattle.text.proofs.lines.put_number.Tie as tie
 
-width-requires : tie.Need-width-requires
-width-requires c κs = search needs
-
 slice-write-out : tie.Need-slice-write-out
 slice-write-out c = search needs
 
-add-put-digits : tie.Need-add-put-digits
-add-put-digits c = search needs
+add-put-decimal : tie.Need-add-put-decimal
+add-put-decimal c = search needs
 
-put-digits-requires : tie.Need-put-digits-requires
-put-digits-requires c κs = simp length-set (omega (arith, c .before .width .ensures .1))
+put-decimal-requires : tie.Need-put-decimal-requires
+put-decimal-requires c κs = simp length-set (omega arith)
 
 add-result : tie.Need-add-result
 add-result c = search needs
 
 returns : tie.Need-returns
-returns c =
-    let width = c .before .before .before .before .width in
-    number-stored _ _ _ _ _ (width .ensures) (c .before .before .put-digits .ensures)
+returns c = number-stored _ _ _ _ _ (c .before .before .put-decimal .ensures)
 
 same-length : tie.Need-same-length
 same-length c = same-room (returns c)
@@ -33,11 +28,4 @@ same-length c = same-room (returns c)
 pub put-number-spec : {M : Type 1} → statement M
 put-number-spec =
     tie.close
-    (tie.spec
-    width-requires
-    slice-write-out
-    add-put-digits
-    put-digits-requires
-    add-result
-    same-length
-    returns)
+    (tie.spec slice-write-out add-put-decimal put-decimal-requires add-result same-length returns)
