@@ -1,4 +1,4 @@
--- The answers and outcomes of the calls, and the answers as numbers, as the walks take them.
+-- The record, the answers and outcomes of the calls, and the answers as numbers, as the walks take them.
 use mathlib.Core.Path.{refl}
 use mir.Syntax.{w8}
 use denote.Plain.{UInt}
@@ -8,6 +8,8 @@ use Rattle.monitor.proofs.answers.CompletionAnswer as CN
 use Rattle.monitor.proofs.answers.CompletionAnswer.Laws as CN′
 use Rattle.monitor.proofs.answers.ElapsedAnswer as EN
 use Rattle.monitor.proofs.answers.ElapsedAnswer.Laws as EN′
+use Rattle.monitor.proofs.record.Monitor as Mon
+use Rattle.monitor.proofs.record.Monitor.Laws as Mon′
 use Rattle.monitor.proofs.record.Outcome as O
 use Rattle.monitor.proofs.record.Outcome.Laws as O′
 use Rattle.monitor.proofs.record.CompletionOutcome as CO
@@ -20,6 +22,9 @@ use Rattle.latency_monitor.proofs.answers.PlainElapsedAnswer as ER
 use Rattle.latency_monitor.proofs.answers.PlainElapsedAnswer.Laws as ER′
 use Rattle.latency_monitor.proofs.PlainData.{Plain, plain-uint, plain-struct, plain-enum, three-variants, Way, by-case}
 use Rattle.latency_monitor.proofs.PlainData.{Outcome, outcome-struct}
+
+abbrev pub the-record : Plain Mon.the-row
+the-record = plain-struct Mon.the-type Mon′.the-laws Mon′.the-plain Mon′.the-copy
 
 abbrev pub answer : Plain N.the-row
 answer = plain-enum N.the-type N′.the-laws tt N′.the-plain N′.the-copy
@@ -36,20 +41,20 @@ completion-cases = by-case (three-variants CN.the-type CN′.the-laws refl)
 abbrev pub elapsed-cases : Way elapsed-answer
 elapsed-cases = by-case (three-variants EN.the-type EN′.the-laws refl)
 
-abbrev pub outcome : Outcome answer
+abbrev pub outcome : Outcome the-record answer
 outcome =
-    outcome-struct answer O.the-type O′.the-laws (λ o. o .next) (λ o. o .answer) refl (λ o. refl)
-    (λ o each. (each .0, each .1 .0))
+    outcome-struct the-record answer O.the-type O′.the-laws (λ o. o .next) (λ o. o .answer)
+    refl (λ o. refl) (λ o each. (each .0, each .1 .0))
 
-abbrev pub completion-outcome : Outcome completion-answer
+abbrev pub completion-outcome : Outcome the-record completion-answer
 completion-outcome =
-    outcome-struct completion-answer CO.the-type CO′.the-laws (λ o. o .next) (λ o. o .answer) refl (λ o. refl)
-    (λ o each. (each .0, each .1 .0))
+    outcome-struct the-record completion-answer CO.the-type CO′.the-laws (λ o. o .next) (λ o. o .answer)
+    refl (λ o. refl) (λ o each. (each .0, each .1 .0))
 
-abbrev pub elapsed-outcome : Outcome elapsed-answer
+abbrev pub elapsed-outcome : Outcome the-record elapsed-answer
 elapsed-outcome =
-    outcome-struct elapsed-answer EO.the-type EO′.the-laws (λ o. o .next) (λ o. o .answer) refl (λ o. refl)
-    (λ o each. (each .0, each .1 .0))
+    outcome-struct the-record elapsed-answer EO.the-type EO′.the-laws (λ o. o .next) (λ o. o .answer)
+    refl (λ o. refl) (λ o each. (each .0, each .1 .0))
 
 abbrev pub refusal : Plain (UInt w8)
 refusal = plain-uint w8

@@ -1,5 +1,5 @@
--- A function that lends the record to a rule, with a further parameter or none, meets its contract: the record that is
--- stored is the one of the rule's definition, and the numbers are made of the rule's answer.
+-- A function that lends a record, of any plain type, to a rule, with a further parameter or none, meets its contract:
+-- the record that is stored is the one of the rule's definition, and the numbers are made of the rule's answer.
 use mathlib.Core.Path.{_≡_, refl, ap, _∙_}
 use Prim.Native.Nat.{ℕ, suc}
 use mathlib.Core.Option.{Option}
@@ -33,10 +33,8 @@ use denote.Triple.Clauses.{Ended, Clauses, AtExit, closing, ensured, lasts}
 use denote.Triple.End.{all}
 use denote.Triple.Walked.{Stays, stay-ref, walkOf, hasOf, goes-ref, ends-at, walked}
 use denote.Exit.{yes}
-use Rattle.monitor.specs.declared.record.Monitor.{Monitor}
 use Rattle.monitor.specs.Answers.{CallAnswer}
-use Rattle.monitor.proofs.record.Monitor as Mon
-use Rattle.latency_monitor.proofs.PlainData.{Plain, Way, Outcome, the-record}
+use Rattle.latency_monitor.proofs.PlainData.{Plain, Way, Outcome}
 use Rattle.latency_monitor.proofs.Locals.{value, frees-cell, opt-local, past, opt-alloc, opt-frees}
 use Rattle.latency_monitor.proofs.Parameters.{Parameters, taken, given, stays, pass, spell, tell, values, same-own, lasts-of, fits}
 use Rattle.latency_monitor.proofs.Parameters.{had, go, more-local, more-val, handed-on, passes-more, reads-more}
@@ -44,8 +42,8 @@ use Rattle.latency_monitor.proofs.Walks.{states, both, Answers, Loan, l
 use Rattle.latency_monitor.proofs.Walks.{runs-as, framed, stands}
 use Rattle.latency_monitor.proofs.Stores.{Hands, hands-back, answer-local, own-locals, own-env, storing, stores}
 
-module _ {N R : RattleType} {PN : Plain N} (O : Outcome PN) (PR : Plain R) (says : N .Denot → CallAnswer)
-    (encode : CallAnswer → R .Denot) (#rule #numbers : Name) (way : Way PN) where
+module _ {T N R : RattleType} {PT : Plain T} {PN : Plain N} (O : Outcome PT PN) (PR : Plain R)
+    (says : N .Denot → CallAnswer) (encode : CallAnswer → R .Denot) (#rule #numbers : Name) (way : Way PN) where
   abbrev numbers : N .Denot → R .Denot
   numbers a = encode (says a)
 
@@ -58,27 +56,27 @@ module _ {N R : RattleType} {PN : Plain N} (O : Outcome PN) (PR : Plain R) (says
     lifetimes = suc n;
     outlives = [];
     params = suc (past (more-local F) 0);
-    locals = value (PR .mir) ∷ value lent-mir ∷ opt-local (more-local F) ++ own-locals O way;
+    locals = value (PR .mir) ∷ value (lent-mir PT) ∷ opt-local (more-local F) ++ own-locals O way;
     body = storing O PR numbers #rule #numbers (more-local F) way (handed-on F);
   }
 
   module _ {M : Type 1} (𝓤 : URA M) (H : Heap 𝓤) (A : Atoms 𝓤) (W : Given 𝓤 H A) {C : Calls 𝓤 H} (Λ : Loops 𝓤 H)
-      (fm : FmC 𝓤 H (W .laws) C) (numbered : Triple 𝓤 (C #numbers) (Answers PN PR numbers 𝓤 H A)) (L : Loan) (h : Monitor)
-      (P B : SProp 𝓤) (Met : O .row .Denot → Type 0) (Q Kf : Val → SProp 𝓤)
+      (fm : FmC 𝓤 H (W .laws) C) (numbered : Triple 𝓤 (C #numbers) (Answers PN PR numbers 𝓤 H A))
+      (L : Loan) (h : T .Denot) (P B : SProp 𝓤) (Met : O .row .Denot → Type 0) (Q Kf : Val → SProp 𝓤)
       (hands : (v : Val) → ent 𝓤 (Q v) (mean 𝓤 H A (Hands O 𝓤 Met B v)))
       (ends : (r : O .row .Denot) (y : R .Denot) (u : Val) → Met r → y ≡ numbers (O .answer r)
-      → ent 𝓤 (⋆ 𝓤 H A (‵ (R .own y (u ∷ [])) ∷ lent 𝓤 L (O .next r) ++ raw B ∷ [])) (Kf u)) where
+      → ent 𝓤 (⋆ 𝓤 H A (‵ (R .own y (u ∷ [])) ∷ lent PT 𝓤 L (O .next r) ++ raw B ∷ [])) (Kf u)) where
     -- the walk, where the rule is called with P
     walk : {n : ℕ} (F : Parameters n) (κs : Lfts (suc n)) (a : Denots (typesAt (given F) κs))
         → Are (typesAt (given F) κs) (Ises (typesAt (given F) κs)) a (valss (typesAt (given F) κs) (spell κs F) a)
-        → (IsRecord h → ent 𝓤 P (C #rule (the-record .val h ∷ flat (typesAt (taken F) (κs .1)) (values κs F a)) Q))
-        → ent 𝓤 (⋆ 𝓤 H A (lent 𝓤 L h ++ raw P ∷ []))
+        → (IsRecord PT h → ent 𝓤 P (C #rule (PT .val h ∷ flat (typesAt (taken F) (κs .1)) (values κs F a)) Q))
+        → ent 𝓤 (⋆ 𝓤 H A (lent PT 𝓤 L h ++ raw P ∷ []))
         (WpFn 𝓤 H C Λ (function F)
         (vptr (L .b) (L .o) ∷ flat (typesAt (given F) κs) (valss (typesAt (given F) κs) (spell κs F) a)) Kf)
     walk F κs a are ruled =
-        qed W (lent 𝓤 L h ++ raw P ∷ []) ∵ enter ! C Λ (function F) (vptr (L .b) (L .o) ∷ _) _ $
+        qed W (lent PT 𝓤 L h ++ raw P ∷ []) ∵ enter ! C Λ (function F) (vptr (L .b) (L .o) ∷ _) _ $
         alloc1 ! (λ l₀. alloc1 ! (λ l₁. opt-alloc ! (more-local F) (own-locals O way) (λ l₂.
-        alloc1 ! (λ l₃. opt-alloc ! answer (value (the-record .mir) ∷ []) (λ l₄. alloc1 ! (λ l₅. alloc0 ! $
+        alloc1 ! (λ l₃. opt-alloc ! answer (value (PT .mir) ∷ []) (λ l₄. alloc1 ! (λ l₅. alloc0 ! $
         -- [_5; dies; _4; dies; .. _0; dies; obs; the borrow; the token; P]
         params1 ! $ pass1 ! (init ! 8 refl (tt, tt)) $
         move ! (6 ∷ []) $ passes-more κs ! F a l₂ (own-env O way l₃ l₄ l₅) are $
@@ -88,17 +86,17 @@ module _ {N R : RattleType} {PN : Plain N} (O : Outcome PN) (PR : Plain R) (says
         -- [the numbers; _0; obs; the borrow; the token; _3; _1; B; _5; _4; _2; dies of _5, _4, .. _0]
         move ! (1 ∷ 16 ∷ 6 ∷ 15 ∷ 10 ∷ 14 ∷ 5 ∷ 13 ∷ 9 ∷ 12 ∷ 8 ∷ 11 ∷ []) $
         frees-cell ! $ frees-cell ! $ opt-frees ! (more-local F) l₂ (more-val κs F a) (own-env O way l₃ l₄ l₅) $
-        frees-cell ! $ opt-frees ! answer l₄ (PN .val (O .answer r)) ((the-record .mir, l₅) ∷ []) $
+        frees-cell ! $ opt-frees ! answer l₄ (PN .val (O .answer r)) ((PT .mir, l₅) ∷ []) $
         frees-cell ! $ free0 ! $ by ! (ends r y u met e))))))))
 
-  module _ {n : ℕ} (F : Parameters n) (after : (κs : Lfts n) → Monitor → Denots (typesAt (taken F) κs) → Monitor)
-      (answers : (κs : Lfts n) → Monitor → Denots (typesAt (taken F) κs) → CallAnswer) where
+  module _ {n : ℕ} (F : Parameters n) (after : (κs : Lfts n) → T .Denot → Denots (typesAt (taken F) κs) → T .Denot)
+      (answers : (κs : Lfts n) → T .Denot → Denots (typesAt (taken F) κs) → CallAnswer) where
     abbrev rule-ended : Ended
     rule-ended = record {
       signature = record {
         lifetimes = n;
         outlives = [];
-        params = plain (λ _. Mon.the-row) ∷ taken F;
+        params = plain (λ _. T) ∷ taken F;
         result = plain (λ _. O .row);
       };
       kept = (yes, all yes (taken F));
@@ -109,14 +107,14 @@ module _ {N R : RattleType} {PN : Plain N} (O : Outcome PN) (PR : Plain R) (says
       signature = record {
         lifetimes = suc n;
         outlives = [];
-        params = mutRefTo (0 ∷ []) tt (plain (λ _. Mon.the-row)) ∷ given F;
+        params = mutRefTo (0 ∷ []) tt (plain (λ _. T)) ∷ given F;
         result = plain (λ _. R);
       };
       kept = (yes, all yes (given F));
     }
 
     abbrev stayed : Stays (ended .signature .params) (ended .kept)
-    stayed = (stay-ref (0 ∷ []) tt (plain (λ _. Mon.the-row)), stays F)
+    stayed = (stay-ref (0 ∷ []) tt (plain (λ _. T)), stays F)
 
     module _ {M : Type 1} (𝓤 : URA M) (H : Heap 𝓤) (A : Atoms 𝓤) where
       abbrev rule-clauses : Clauses 𝓤 rule-ended
@@ -167,16 +165,16 @@ module _ {N R : RattleType} {PN : Plain N} (O : Outcome PN) (PR : Plain R) (says
         args = (a .0 .now, pass κs F (a .1))
 
         abbrev to-rule : Rule .Ghost
-        to-rule = ((κs .1, qs .1, tt, args, (the-record .val (a .0 .now) ∷ [], values κs F (a .1))), tt)
+        to-rule = ((κs .1, qs .1, tt, args, (PT .val (a .0 .now) ∷ [], values κs F (a .1))), tt)
 
         abbrev Met : O .row .Denot → Type 0
         Met r =
             (O .next r ≡ after (κs .1) (args .0) (args .1)) × (says (O .answer r) ≡ answers (κs .1) (args .0) (args .1))
 
-        goes-rule : IsRecord (a .0 .now) → ent 𝓤 P (Rule .pre to-rule)
+        goes-rule : IsRecord PT (a .0 .now) → ent 𝓤 P (Rule .pre to-rule)
         goes-rule was =
             qed W (raw Tokens ∷ ‵ own-more ∷ []) ∵ rewrite ! 1 (λ (own : Fml). ‵ own) (same-own κs F (a .1)) refl $
-            move ! (1 ∷ []) $ owned ! Mon.the-row (Is Mon.the-row) (the-record .makes 𝓤 H A W) (a .0 .now) _ was $
+            move ! (1 ∷ []) $ owned ! T (Is T) (PT .makes 𝓤 H A W) (a .0 .now) _ was $
             fjoin ! $ move ! (1 ∷ 0 ∷ []) $ join ! $ frame ! $ done !
 
         told : (r : O .row .Denot)
@@ -184,9 +182,9 @@ module _ {N R : RattleType} {PN : Plain N} (O : Outcome PN) (PR : Plain R) (says
         told r = exE 𝓤 _ (λ ws. via 𝓤 _ (snd∗ 𝓤 (sem 𝓤 H A (lasts rule-ended (κs .1) args ws)) _) (both 𝓤 _ _))
 
         ends : (r : O .row .Denot) (y : R .Denot) (u : Val) → Met r → y ≡ numbers (O .answer r)
-            → ent 𝓤 (⋆ 𝓤 H A (‵ (R .own y (u ∷ [])) ∷ lent 𝓤 L (O .next r) ++ raw Tokens ∷ [])) (Post u)
+            → ent 𝓤 (⋆ 𝓤 H A (‵ (R .own y (u ∷ [])) ∷ lent PT 𝓤 L (O .next r) ++ raw Tokens ∷ [])) (Post u)
         ends r y u met e =
-            qed W (‵ (R .own y (u ∷ [])) ∷ lent 𝓤 L (O .next r) ++ raw Tokens ∷ []) ∵
+            qed W (‵ (R .own y (u ∷ [])) ∷ lent PT 𝓤 L (O .next r) ++ raw Tokens ∷ []) ∵
             suffices ! _
             (ends-at 𝓤 H A ended stayed c W bound u y (O .next r, lasts-of κs F (a .1)) (tt, fits κs F (a .1))) $
             states ! (follows κs a g y _ (met .0) (e ∙ ap encode (met .1))) $
@@ -196,9 +194,9 @@ module _ {N R : RattleType} {PN : Plain N} (O : Outcome PN) (PR : Plain R) (says
             (had κs 𝓤 H A F (a .1) vals) $ move ! (1 ∷ 0 ∷ []) $ fjoin ! $ done !
 
         enters : ent 𝓤 (onEntry 𝓤 H A (ended .signature) κs qs a (vptr (L .b) (L .o) ∷ [], vals))
-            (⋆ 𝓤 H A (lent 𝓤 L (a .0 .now) ++ raw P ∷ []))
+            (⋆ 𝓤 H A (lent PT 𝓤 L (a .0 .now) ++ raw P ∷ []))
         enters =
-            qed W ((‵ (flft (L .κ) (L .q)) ⊛ raw Tokens) ∷ ‵ (owns (MutRef (named 0) (L .κ) Mon.the-row
+            qed W ((‵ (flft (L .κ) (L .q)) ⊛ raw Tokens) ∷ ‵ (owns (MutRef (named 0) (L .κ) T
             ∷ typesAt (given F) κs) a (vptr (L .b) (L .o) ∷ [], vals)) ∷ []) ∵
             split ! $ move ! (2 ∷ []) $ fsplit ! $ fsplit3 ! $ drop ! $ move ! (0 ∷ 1 ∷ 3 ∷ 4 ∷ 2 ∷ []) $ done !
 
@@ -223,9 +221,9 @@ module _ {N R : RattleType} {PN : Plain N} (O : Outcome PN) (PR : Plain R) (says
         let W = givenOf 𝓤 H 𝓜 𝓖 in
         stands 𝓤 H 𝓜 𝓖 𝓡 env ended stayed c #self (function F) closed
         (walked 𝓤 H (𝓖 .A) ended stayed c (runs-as 𝓤 H 𝓜 𝓖 𝓡 env (function F))
-        (λ κs. (ptr-vals, spell κs F)) (λ κs. (mut-tells (named 0) (κs .0) Mon.the-row, tell κs F))
+        (λ κs. (ptr-vals, spell κs F)) (λ κs. (mut-tells (named 0) (κs .0) T, tell κs F))
         (λ κs qs bounds a g are. via 𝓤 _ (fst∗ 𝓤 _ (c κs a .requires g))
         (runs 𝓤 H (𝓖 .A) W c follows κs qs a g (loops 𝓤 H 𝓜 𝓖 𝓡 env) (framed 𝓤 H 𝓜 𝓖 𝓡 env)
         (cited 𝓤 H (Rule 𝓤 H (𝓖 .A)) 𝓜 𝓡 env #rule _ is-rule ruled)
         (cited 𝓤 H (Answers PN PR numbers 𝓤 H (𝓖 .A)) 𝓜 𝓡 env #numbers _ is-numbers numbered) (are .1))))
-        (goes-ref 𝓤 H (𝓖 .A) W (suc n) 0 tt (plain (λ _. Mon.the-row)), go 𝓤 H (𝓖 .A) W F)
+        (goes-ref 𝓤 H (𝓖 .A) W (suc n) 0 tt (plain (λ _. T)), go 𝓤 H (𝓖 .A) W F)

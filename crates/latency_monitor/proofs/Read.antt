@@ -48,8 +48,7 @@ use Rattle.monitor.proofs.answers.Answer as N
 use Rattle.monitor.proofs.record.Monitor as Mon
 use Rattle.monitor.proofs.record.Monitor.Laws as Mon′
 use Rattle.latency_monitor.specs.Answers.{asRefusal}
-use Rattle.latency_monitor.proofs.PlainData.{the-record}
-use Rattle.latency_monitor.proofs.AnswerTypes.{answer, refusal}
+use Rattle.latency_monitor.proofs.AnswerTypes.{the-record, answer, refusal}
 use Rattle.latency_monitor.proofs.Locals.{value, frees-cell}
 use Rattle.latency_monitor.proofs.Walks.{states, Answers, makes-numbers, Loan, loan, IsRecord, calls}
 use Rattle.latency_monitor.proofs.Walks.{loops, runs-as, framed, stands}
@@ -153,7 +152,7 @@ module _ (#rule #numbers : Name) (after : Monitor → List ℕ → List ℕ) (an
       abbrev own-s : Fml
       own-s = fsep (MutSlice (named 1) κ u8 .own s (slice-vals s)) ftrue
 
-      goes-rule : IsRecord h → ent 𝓤 (⋆ 𝓤 H A (token ∷ ‵ own-s ∷ [])) (Rule .pre to-rule)
+      goes-rule : IsRecord the-record h → ent 𝓤 (⋆ 𝓤 H A (token ∷ ‵ own-s ∷ [])) (Rule .pre to-rule)
       goes-rule was =
           qed W (token ∷ ‵ own-s ∷ []) ∵ move ! (1 ∷ []) $
           owned ! Mon.the-row (Is Mon.the-row) (the-record .makes 𝓤 H A W) h _ was $ fjoin ! $

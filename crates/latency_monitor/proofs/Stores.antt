@@ -22,8 +22,7 @@ use denote.Laws.{Is, shows}
 use denote.Steps.{owned, facts, heard}
 use denote.Triple.Statement.{Triple}
 use denote.Triple.Call.{calls-from}
-use Rattle.monitor.specs.declared.record.Monitor.{Monitor}
-use Rattle.latency_monitor.proofs.PlainData.{Plain, Way, once, by-case, Outcome, Both-are, the-record, outcome-mir}
+use Rattle.latency_monitor.proofs.PlainData.{Plain, Way, once, by-case, Outcome, Both-are, outcome-mir}
 use Rattle.latency_monitor.proofs.PlainData.{outcome-val}
 use Rattle.latency_monitor.proofs.Locals.{value, room, cell, found, opt-local, opt-env, opt-room, opt-cell, past}
 use Rattle.latency_monitor.proofs.Locals.{spot-past, matching, matches}
@@ -31,8 +30,8 @@ use Rattle.latency_monitor.proofs.Walks.{Answers, makes-numbers, Loan, 
 use Rattle.latency_monitor.proofs.Walks.{IsRecord}
 
 -- ---- what a rule hands back once it has returned v: an outcome that meets its contract, beside B
-module _ {N : RattleType} {PN : Plain N} (O : Outcome PN) {M : Type 1} (𝓤 : URA M) (Met : O .row .Denot → Type 0)
-    (B : SProp 𝓤) where
+module _ {T N : RattleType} {PT : Plain T} {PN : Plain N} (O : Outcome PT PN) {M : Type 1} (𝓤 : URA M)
+    (Met : O .row .Denot → Type 0) (B : SProp 𝓤) where
   abbrev pub Hands : Val → Item 𝓤
   Hands v = later (some (λ (r : O .row .Denot). ‵ (O .row .own r (v ∷ [])) ⊛ raw (fact 𝓤 (Met r)) ⊛ raw B))
 
@@ -53,19 +52,19 @@ abbrev pub answer-local : {N : RattleType} {PN : Plain N} → Way PN → Option 
 answer-local once = absent
 answer-local {PN = PN} (by-case three) = present (PN .mir)
 
-module _ {N : RattleType} {PN : Plain N} (O : Outcome PN) (way : Way PN) where
+module _ {T N : RattleType} {PT : Plain T} {PN : Plain N} (O : Outcome PT PN) (way : Way PN) where
   abbrev pub own-locals : List Local
   own-locals =
-      value (outcome-mir PN (O .name)) ∷ opt-local (answer-local way) ++ value (the-record .mir) ∷ []
+      value (outcome-mir PT PN (O .name)) ∷ opt-local (answer-local way) ++ value (PT .mir) ∷ []
 
   abbrev pub own-env : ℕ → ℕ → ℕ → List (Ty × ℕ)
   own-env lp la lm =
-      (outcome-mir PN (O .name), lp) ∷ opt-env (answer-local way) la ++ (the-record .mir, lm) ∷ []
+      (outcome-mir PT PN (O .name), lp) ∷ opt-env (answer-local way) la ++ (PT .mir, lm) ∷ []
 
 -- ---- the body, where x is the further parameter's local: m is the local of the record, p that of the outcome, and a
 -- that of the answer
-module _ {N R : RattleType} {PN : Plain N} (O : Outcome PN) (PR : Plain R) (numbers : N .Denot → R .Denot)
-    (#rule #numbers : Name) (x : Option Ty) (way : Way PN) where
+module _ {T N R : RattleType} {PT : Plain T} {PN : Plain N} (O : Outcome PT PN) (PR : Plain R)
+    (numbers : N .Denot → R .Denot) (#rule #numbers : Name) (x : Option Ty) (way : Way PN) where
   abbrev m : ℕ
   m = suc (suc (past x (suc (past (answer-local way) 0))))
 
@@ -77,11 +76,11 @@ module _ {N R : RattleType} {PN : Plain N} (O : Outcome PN) (PR : Plain R) (numb
 
   abbrev asking : List Operand → Body → Body
   asking xs rest =
-      seq (assign (place m []) (rvOpd (copy (place 1 (deref (the-record .mir) ∷ [])))))
+      seq (assign (place m []) (rvOpd (copy (place 1 (deref (PT .mir) ∷ [])))))
       (seq (call #rule (copy (place m []) ∷ xs) (place p [])) rest)
 
   abbrev keeping : Body
-  keeping = assign (place 1 (deref (the-record .mir) ∷ [])) (rvOpd (copy (place p (field 0 ∷ []))))
+  keeping = assign (place 1 (deref (PT .mir) ∷ [])) (rvOpd (copy (place p (field 0 ∷ []))))
 
   abbrev answering : Place → Body
   answering q = seq (call #numbers (copy q ∷ []) (place 0 [])) return
@@ -97,33 +96,33 @@ module _ {N R : RattleType} {PN : Plain N} (O : Outcome PN) (PR : Plain R) (numb
   storing xs = asking xs (finishing way)
 
   abbrev outcome : Ty
-  outcome = outcome-mir PN (O .name)
+  outcome = outcome-mir PT PN (O .name)
 
-  module _ {M : Type 1} (𝓤 : URA M) (H : Heap 𝓤) (A : Atoms 𝓤) (W : Given 𝓤 H A) (L : Loan) (h : Monitor)
+  module _ {M : Type 1} (𝓤 : URA M) (H : Heap 𝓤) (A : Atoms 𝓤) (W : Given 𝓤 H A) (L : Loan) (h : T .Denot)
       (P B : SProp 𝓤) (Met : O .row .Denot → Type 0) (C : Calls 𝓤 H) (Λ : Loops 𝓤 H) (l₀ l₁ l₂ lp la lm : ℕ)
       (Kf : Val → SProp 𝓤) where
     abbrev E : Env 𝓤 H
-    E = (PR .mir, l₀) ∷ (lent-mir, l₁) ∷ opt-env x l₂ ++ own-env O way lp la lm
+    E = (PR .mir, l₀) ∷ (lent-mir PT, l₁) ∷ opt-env x l₂ ++ own-env O way lp la lm
 
-    at-m : spotOf 𝓤 H E m ≡ (the-record .mir, lm, zero)
+    at-m : spotOf 𝓤 H E m ≡ (PT .mir, lm, zero)
     at-m =
         spot-past 𝓤 H x l₂ (own-env O way lp la lm) (suc (past (answer-local way) 0))
-        ∙ spot-past 𝓤 H (answer-local way) la ((the-record .mir, lm) ∷ []) 0
+        ∙ spot-past 𝓤 H (answer-local way) la ((PT .mir, lm) ∷ []) 0
 
     at-p : spotOf 𝓤 H E p ≡ (outcome, lp, zero)
     at-p = spot-past 𝓤 H x l₂ (own-env O way lp la lm) 0
 
-    at-a : spotOf 𝓤 H E a ≡ spotOf 𝓤 H (opt-env (answer-local way) la ++ (the-record .mir, lm) ∷ []) 0
+    at-a : spotOf 𝓤 H E a ≡ spotOf 𝓤 H (opt-env (answer-local way) la ++ (PT .mir, lm) ∷ []) 0
     at-a = spot-past 𝓤 H x l₂ (own-env O way lp la lm) 1
 
     abbrev pointer : Item 𝓤
-    pointer = ‵ (cell lent-mir l₁ (vptr (L .b) (L .o)))
+    pointer = ‵ (cell (lent-mir PT) l₁ (vptr (L .b) (L .o)))
 
     abbrev loaded : Item 𝓤
-    loaded = ‵ (cell (the-record .mir) lm (the-record .val h))
+    loaded = ‵ (cell (PT .mir) lm (PT .val h))
 
     abbrev handed : O .row .Denot → Item 𝓤
-    handed r = ‵ (cell outcome lp (outcome-val PN (O .next r) (O .answer r)))
+    handed r = ‵ (cell outcome lp (outcome-val PT PN (O .next r) (O .answer r)))
 
     abbrev unanswered : Item 𝓤
     unanswered = ‵ (room (PR .mir) l₀)
@@ -133,16 +132,16 @@ module _ {N R : RattleType} {PN : Plain N} (O : Outcome PN) (PR : Plain R) (numb
 
     -- what is had at the start, when the rule is called, once its outcome is there, and once its record is stored
     abbrev Begun : List (Item 𝓤) → List (Item 𝓤)
-    Begun Γ = lent 𝓤 L h ++ ‵ (room (the-record .mir) lm) ∷ ‵ (room outcome lp) ∷ pointer ∷ unanswered ∷ raw P ∷ Γ
+    Begun Γ = lent PT 𝓤 L h ++ ‵ (room (PT .mir) lm) ∷ ‵ (room outcome lp) ∷ pointer ∷ unanswered ∷ raw P ∷ Γ
 
     abbrev Asked : List (Item 𝓤) → List (Item 𝓤)
-    Asked Γ = raw P ∷ opened 𝓤 L h h ++ loaded ∷ ‵ (room outcome lp) ∷ pointer ∷ unanswered ∷ Γ
+    Asked Γ = raw P ∷ opened PT 𝓤 L h h ++ loaded ∷ ‵ (room outcome lp) ∷ pointer ∷ unanswered ∷ Γ
 
     abbrev Handed : O .row .Denot → List (Item 𝓤) → List (Item 𝓤)
-    Handed r Γ = raw B ∷ opened 𝓤 L h h ++ loaded ∷ handed r ∷ pointer ∷ unanswered ∷ Γ
+    Handed r Γ = raw B ∷ opened PT 𝓤 L h h ++ loaded ∷ handed r ∷ pointer ∷ unanswered ∷ Γ
 
     abbrev Stored : O .row .Denot → List (Item 𝓤) → List (Item 𝓤)
-    Stored r Γ = lent 𝓤 L (O .next r) ++ handed r ∷ pointer ∷ raw B ∷ loaded ∷ Γ
+    Stored r Γ = lent PT 𝓤 L (O .next r) ++ handed r ∷ pointer ∷ raw B ∷ loaded ∷ Γ
 
     -- the end, once the numbers are there
     abbrev Ends : O .row .Denot → List (Item 𝓤) → Type 1
@@ -151,17 +150,17 @@ module _ {N R : RattleType} {PN : Plain N} (O : Outcome PN) (PR : Plain R) (numb
 
     module _ {vs : List Val} {Q : Val → SProp 𝓤} (fm : FmC 𝓤 H (W .laws) C)
         (numbered : Triple 𝓤 (C #numbers) (Answers PN PR numbers 𝓤 H A))
-        (ruled : IsRecord h → ent 𝓤 P (C #rule (the-record .val h ∷ vs) Q))
+        (ruled : IsRecord PT h → ent 𝓤 P (C #rule (PT .val h ∷ vs) Q))
         (hands : (v : Val) → ent 𝓤 (Q v) (mean 𝓤 H A (Hands O 𝓤 Met B v))) where
       -- the loan is opened, the record is loaded, and the rule is called
       asks : {Γ : List (Item 𝓤)} {xs : List Operand} {rest : Body} → Opds (Go {0}) W (Asked Γ) E xs vs
-          → ((r : O .row .Denot) → Met r → Both-are PN (O .next r) (O .answer r) → Sq W (Handed r Γ) (Runs rest))
+          → ((r : O .row .Denot) → Met r → Both-are PT PN (O .next r) (O .answer r) → Sq W (Handed r Γ) (Runs rest))
           → Sq W (Begun Γ) (Runs (asking xs rest))
       asks reads k =
-          opens-lent 𝓤 L H A W tt h (λ was.
+          opens-lent PT 𝓤 L H A W tt h (λ was.
           -- [the record; the open borrow; obs; auth; m; p; the pointer; the numbers; P; …]
           assigns ! (of-opd ! (load ! (from ! (hop ! (look ! 6 refl) (stop !))) (look-raw ! 0 refl)))
-          (found ! at-m (stop !)) (init ! 4 refl (the-record .typed 𝓤 H A W h _ was)) $ move ! (8 ∷ []) $
+          (found ! at-m (stop !)) (init ! 4 refl (PT .typed 𝓤 H A W h _ was)) $ move ! (8 ∷ []) $
           calls-from ! fm (raw P) _ _ (ruled was)
           (and-then ! (load ! (found ! at-m (stop !)) (look ! 5 refl)) reads) (λ v.
           use1 W (Hands O 𝓤 Met B v) (hands v) $ await ! tt $ pick ! (λ r. split3 ! $
@@ -171,22 +170,22 @@ module _ {N R : RattleType} {PN : Plain N} (O : Outcome PN) (PR : Plain R) (numb
           rewrite ! 6 (λ (u : Val). ‵ (cell outcome lp u)) (O .tells r v is) refl $ k r met (O .parts r v is))))))
 
       -- the record of its outcome is stored, the loan is shut, and the answer, which is at q, is made numbers
-      keeps : {Γ : List (Item 𝓤)} {q : Place} (r : O .row .Denot) → Both-are PN (O .next r) (O .answer r)
+      keeps : {Γ : List (Item 𝓤)} {q : Place} (r : O .row .Denot) → Both-are PT PN (O .next r) (O .answer r)
           → ((i : Item 𝓤) → Opd (Go {0}) W (i ∷ unanswered ∷ Stored r Γ) E (copy q) (PN .val (O .answer r)))
           → Ends r Γ → Sq W (Handed r Γ) (Runs (seq keeping (answering q)))
       keeps r are reads ends =
           -- [B; the record; the open borrow; obs; auth; m; p; the pointer; the numbers; …]
           assigns ! (of-opd ! (load ! (found ! at-p (fld ! refl (stop !))) (look-in ! 6 (sub ! 0 refl (whole !)))))
           (from ! (hop ! (look ! 7 refl) (stop !)))
-          (store-raw ! 1 refl (the-record .typed 𝓤 H A W (O .next r) _ (are .0))) $
-          move ! (1 ∷ 2 ∷ 3 ∷ 4 ∷ []) $ closes-lent 𝓤 L H A W tt (O .next r) h (are .0) (
+          (store-raw ! 1 refl (PT .typed 𝓤 H A W (O .next r) _ (are .0))) $
+          move ! (1 ∷ 2 ∷ 3 ∷ 4 ∷ []) $ closes-lent PT 𝓤 L H A W tt (O .next r) h (are .0) (
           -- [obs; the borrow; the token; B; m; p; the pointer; the numbers; …]
           owned ! N (Is N) (PN .makes 𝓤 H A W) (O .answer r) _ (are .1) $
           move ! (0 ∷ 8 ∷ 1 ∷ 2 ∷ 3 ∷ 6 ∷ 7 ∷ 4 ∷ 5 ∷ []) $
           makes-numbers PN PR numbers 𝓤 H A W (O .answer r) (PN .val (O .answer r)) fm numbered (reads _) ends)
 
-      finishes : {Γ : List (Item 𝓤)} (w : Way PN) (r : O .row .Denot) → Both-are PN (O .next r) (O .answer r)
-          → spotOf 𝓤 H E a ≡ spotOf 𝓤 H (opt-env (answer-local w) la ++ (the-record .mir, lm) ∷ []) 0
+      finishes : {Γ : List (Item 𝓤)} (w : Way PN) (r : O .row .Denot) → Both-are PT PN (O .next r) (O .answer r)
+          → spotOf 𝓤 H E a ≡ spotOf 𝓤 H (opt-env (answer-local w) la ++ (PT .mir, lm) ∷ []) 0
           → Ends r (‵ (opt-cell (answer-local w) la (PN .val (O .answer r))) ∷ Γ)
           → Sq W (Handed r (‵ (opt-room (answer-local w) la) ∷ Γ)) (Runs (finishing w))
       finishes once r are at ends =

@@ -36,7 +36,8 @@ use Rattle.monitor.proofs.record.Monitor as Mon
 use Rattle.monitor.proofs.record.Monitor.new as rule
 use Rattle.monitor.proofs.record.Monitor.new.Symbol.{name as #rule}
 use Rattle.monitor.proofs.record.Monitor.new.Met as rule-proof
-use Rattle.latency_monitor.proofs.PlainData.{the-record, spelled}
+use Rattle.latency_monitor.proofs.PlainData.{spelled}
+use Rattle.latency_monitor.proofs.AnswerTypes.{the-record}
 use Rattle.latency_monitor.proofs.Locals.{cell, frees-cell}
 use Rattle.latency_monitor.proofs.Walks.{Loan, loan, lent, opens-lent, closes-lent, loops, runs-as}
 use Rattle.latency_monitor.proofs.Walks.{framed, stands}
@@ -77,9 +78,10 @@ module _ {M : Type 1} (𝓤 : URA M) (H : Heap 𝓤) (A : Atoms 𝓤) (at-mem : 
     abbrev Post : Val → SProp 𝓤
     Post = walkOf 𝓤 H A f.ended stayed clauses .post bound
 
-    ends : (r : Monitor) → r ≡ newMonitor → ent 𝓤 (⋆ 𝓤 H A (lent 𝓤 L r)) (Post vunit)
+    ends : (r : Monitor) → r ≡ newMonitor → ent 𝓤 (⋆ 𝓤 H A (lent the-record 𝓤 L r)) (Post vunit)
     ends r e =
-        qed W (lent 𝓤 L r) ∵ suffices ! _ (ends-at 𝓤 H A f.ended stayed clauses W bound vunit tt (r, tt) (tt, tt)) $
+        qed W (lent the-record 𝓤 L r) ∵
+        suffices ! _ (ends-at 𝓤 H A f.ended stayed clauses W bound vunit tt (r, tt) (tt, tt)) $
         says ! e $ nothing ! $ move ! (3 ∷ 0 ∷ []) $ join ! $ frame ! $
         feqI ! (List Val) (at .0) (at .0) refl $ fjoin3 ! $ nothing ! $ move ! (1 ∷ 0 ∷ []) $ fjoin ! $
         owned ! Nothing (Is Nothing) (nothing-makes 𝓤 H A W) tt _ refl $ move ! (1 ∷ 0 ∷ []) $ done !
@@ -102,11 +104,11 @@ module _ {M : Type 1} (𝓤 : URA M) (H : Heap 𝓤) (A : Atoms 𝓤) (at-mem : 
         -- [_2; …; _1; …; _0; …; obs; the borrow; the token; …]
         land ! (from ! (stop !)) (init ! 0 refl (the-record .typed 𝓤 H A W r v is)) $
         rewrite ! 0 (λ (u : Val). ‵ (cell (the-record .mir) l₂ u)) (ap only (the-record .tells r _ is)) refl $
-        move ! (6 ∷ 7 ∷ 8 ∷ []) $ opens-lent 𝓤 L H A W tt h (λ _.
+        move ! (6 ∷ 7 ∷ 8 ∷ []) $ opens-lent the-record 𝓤 L H A W tt h (λ _.
         -- [the record; the open borrow; obs; auth; _2; …; _1; …; _0; …]
         assigns ! (of-opd ! (load ! (from ! (stop !)) (look ! 4 refl))) (from ! (hop ! (look ! 6 refl) (stop !)))
         (store-raw ! 0 refl (the-record .typed 𝓤 H A W r _ (spelled the-record r v is))) $
-        closes-lent 𝓤 L H A W tt r h (spelled the-record r v is) (
+        closes-lent the-record 𝓤 L H A W tt r h (spelled the-record r v is) (
         assigns ! (of-opd ! (unit-lit !)) (from ! (stop !)) (init ! 7 refl (tt, tt)) $ returns ! (look ! 7 refl) $
         move ! (7 ∷ 8 ∷ []) $ frees-cell ! $ move ! (5 ∷ 6 ∷ []) $ frees-cell ! $ move ! (3 ∷ 4 ∷ []) $ frees-cell ! $
         free0 ! $ keep ! (0 ∷ 1 ∷ 2 ∷ []) $ by ! (ends r e))))))))))
