@@ -4,12 +4,13 @@ use mathlib.Core.Bool.{true, false}
 use mathlib.Core.List.{List, [], _∷_}
 use mathlib.Core.Option.{Option, none, some}
 use Prim.Native.Nat.{ℕ, _*_}
-use native.Mathlib.Omega.{arith}
-use lib.ListN.{getD}
+use lib.ListN.{getD, take, drop}
 use Rattle.endian.specs.Bytes.{anySet}
-use Rattle.endian.specs.Stores.{lowFirst}
-use Rattle.logpage.proofs.Places.{stamp-at}
+use Rattle.endian.specs.Stores.{lowFirst, fields}
+use Rattle.logpage.specs.Block.{buckets, downward, blockBytes}
 use Rattle.logpage.specs.Fields.{emptyWindow, noDebugLog}
+use Rattle.logpage.specs.Page.{headBytes, windowsBytes, pageBytes}
+use Rattle.logpage.specs.declared.page.LogPage.{LogPage}
 use Rattle.monitor.specs.declared.record.Monitor.{Monitor}
 use Rattle.monitor.specs.Commands.{kindOf, highestBelow, bucketOf, counterOf, millisecondsOf}
 use Rattle.monitor.specs.Counting.{loads, countedIn, triggers}
@@ -74,6 +75,15 @@ equal-row : Holds (bucket (1 ∷ 1 ∷ 3 ∷ 9 ∷ []) 10000 (some 1))
 unfolding completionAnswer counterOf bucketOf highestBelow kindOf millisecondsOf loads triggers emptyWindow noDebugLog
 equal-row = ap (λ m. completionAnswer m (read 10000)) equal-record
 
+-- P11, P12: the places on the page
+stamp-of-nine : (p : LogPage) → take 8 (drop 112 (pageBytes p)) ≡ lowFirst 8 (getD (p .«active_window» .stamps) 9 0)
+unfolding pageBytes headBytes windowsBytes blockBytes buckets downward fields lowFirst
+stamp-of-nine p = refl
+
+stamp-of-two : (p : LogPage) → take 8 (drop 168 (pageBytes p)) ≡ lowFirst 8 (getD (p .«active_window» .stamps) 2 0)
+unfolding pageBytes headBytes windowsBytes blockBytes buckets downward fields lowFirst
+stamp-of-two p = refl
+
 pub edges-hold : EdgesHold
 unfolding completionAnswer afterCompletion counterOf bucketOf highestBelow kindOf millisecondsOf loads triggers countedIn elapsedAnswers elapsedAnswer afterElapsed elapsedRefusal ticked emptyWindow noDebugLog
 edges-hold = (
@@ -97,9 +107,9 @@ edges-hold = (
                   (
                     by-usual (λ m. elapsedAnswers m (299999 ∷ 1 ∷ [])) _ refl,
                     (
-                      λ p. stamp-at p 9 (omega arith),
+                      stamp-of-nine,
                       (
-                        λ p. stamp-at p 2 (omega arith),
+                        stamp-of-two,
                         tt,
                       ),
                     ),

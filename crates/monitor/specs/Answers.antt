@@ -2,8 +2,8 @@
 use mathlib.Core.Bool.{Bool, true, false}
 use mathlib.Core.Option.{Option, none, some}
 use Prim.Native.Nat.{ℕ}
-use Rattle.monitor.specs.declared.answers.Answer.{Answer}
-use Rattle.monitor.specs.declared.answers.Answer.the-variants.{Done, Refused}
+use Rattle.logpage.specs.declared.answers.Answer.{Answer}
+use Rattle.logpage.specs.declared.answers.Answer.the-variants.{Done, Refused}
 use Rattle.monitor.specs.declared.answers.CompletionAnswer.{CompletionAnswer}
 use Rattle.monitor.specs.declared.answers.CompletionAnswer.the-variants as completion
 use Rattle.monitor.specs.declared.answers.ElapsedAnswer.{ElapsedAnswer}

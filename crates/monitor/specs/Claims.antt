@@ -7,8 +7,9 @@ use Prim.Native.Nat.{ℕ, _*_, _%_, _<_}
 use lib.Dec.{ltb}
 use lib.ListN.{length, set, replicate}
 use Rattle.logpage.specs.Page.{pageBytes}
+use Rattle.logpage.specs.Fields.{each}
 use Rattle.monitor.specs.Facts.{inForce, clockAt, hostSetAt, timerThreshold, enabledTime, windowAt, timerAt}
-use Rattle.monitor.specs.Facts.{Counted, active, static, countOf, lastLoad, stampOf, latencyOf, unitsOf, each}
+use Rattle.monitor.specs.Facts.{Counted, active, static, countOf, lastLoad, stampOf, latencyOf, unitsOf}
 use Rattle.monitor.specs.Facts.{windowFrom}
 use Rattle.monitor.specs.Facts.{debugAt, factsOf}
 use Rattle.monitor.specs.History.{elapsed, History, Past, OfBytes, settingsIn, found, latest, pastOf, play}

@@ -5,7 +5,7 @@ use mathlib.Core.Option.{Option, none, some}
 use Prim.Native.Nat.{ℕ, zero, suc, _+_, _-_, _*_, _/_, min}
 use lib.Dec.{eqb, leb, ltb}
 use lib.ListN.{length}
-use Rattle.logpage.specs.Fields.{unset, noSettings, noDebugLog}
+use Rattle.logpage.specs.Fields.{unset, noSettings, noDebugLog, each}
 use Rattle.logpage.specs.declared.page.LogPage.{LogPage}
 use Rattle.logpage.specs.declared.DebugLog.{DebugLog}
 use Rattle.logpage.specs.declared.Settings.{Settings}
@@ -135,14 +135,6 @@ latencyOf load = found 0 (λ x. millisecondsOf (x .command)) load
 
 abbrev pub unitsOf : Option Counted → Bool
 unitsOf load = found false (λ x. hostSetAt (x .before)) load
-
--- f 0, f 1, .. of the twelve counters
-unfoldable pub from : {A : Type 0} → ℕ → ℕ → (ℕ → A) → List A
-from i zero f = []
-from i (suc n) f = f i ∷ from (suc i) n f
-
-abbrev pub each : {A : Type 0} → (ℕ → A) → List A
-each f = from 0 12 f
 
 -- a window, from the completions counted for each counter
 abbrev pub windowFrom : (ℕ → List Counted) → Window

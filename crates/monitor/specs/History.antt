@@ -2,7 +2,8 @@
 use mathlib.Core.Bool.{Bool, true, false, cond}
 use mathlib.Core.List.{List, [], _∷_, map}
 use mathlib.Core.Option.{Option, none, some}
-use Prim.Native.Nat.{ℕ, _<_}
+use Prim.Native.Nat.{ℕ}
+use Rattle.endian.specs.Bytes.{Bytes}
 use Rattle.monitor.specs.declared.commands.Command.{Command}
 use Rattle.monitor.specs.declared.record.Monitor.{Monitor}
 use Rattle.monitor.specs.Answers.{CallAnswer, done}
@@ -168,10 +169,6 @@ since start f [] = []
 since start f (e ∷ past) = unlessFound (start e) (andThen (f e past) (since start f past))
 
 -- the settings of a history are bytes
-abbrev pub Bytes : List ℕ → Type 0
-Bytes [] = Unit {0}
-Bytes (b ∷ bs) = (b < 256) × Bytes bs
-
 abbrev pub OfBytes : History → Type 0
 OfBytes [] = Unit {0}
 OfBytes (c ∷ h) = Bytes (found [] (λ s. s) (settingsIn (asked c))) × OfBytes h

@@ -1,18 +1,14 @@
 -- 01, Where a call is turned away: rows 1 to 10 of its table. Rows 11 and 12 are those of `events`.
 use Prim.Native.Nat.{ℕ}
-use mathlib.Core.Bool.{Bool, true, false, not, _||_}
+use mathlib.Core.Bool.{Bool, not, _||_}
 use mathlib.Core.List.{List}
-use mathlib.Core.Option.{Option, none, some}
+use mathlib.Core.Option.{Option, none}
 use lib.Dec.{eqb, ltb}
 use lib.ListN.{length, getD, drop}
 use Rattle.endian.specs.Bytes.{anySet}
+use Rattle.logpage.specs.Answers.{row}
 use Rattle.logpage.specs.declared.Settings.{Settings}
 use Rattle.monitor.specs.Settings.{discard, enable, decoded}
-
--- a row's number if its test says so, else what the rows after it say
-abbrev pub row : ℕ → Bool → Option ℕ → Option ℕ
-row n true later = some n
-row n false later = later
 
 -- whether one of two numbers is above a limit
 abbrev pub eitherAbove : ℕ → ℕ → ℕ → Bool

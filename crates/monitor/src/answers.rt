@@ -1,11 +1,5 @@
-// What the calls answer. specs/Answers.antt gives the number and the values of document 01 for each case.
-
-// The answer of a call that has no other.
-pub enum Answer {
-    // The number of the rule that turned the call away.
-    Refused(u8),
-    Done,
-}
+// What calls answer that have more to tell than `logpage::Answer`. specs/Answers.antt gives the number and the values of
+// document 01 for each case.
 
 // The answer to a completion, which is never turned away.
 pub enum CompletionAnswer {

@@ -8,11 +8,11 @@ mod report;
 mod settings;
 mod timer;
 
-pub use answers::Answer;
 pub use answers::CompletionAnswer;
 pub use answers::ElapsedAnswer;
 pub use commands::Command;
 pub use commands::NOT_COUNTED;
+pub use logpage::Answer;
 pub use record::CompletionOutcome;
 pub use record::ElapsedOutcome;
 pub use record::Monitor;

@@ -5,10 +5,10 @@ ghost use Rattle.monitor.specs.Answers.{saysAnswer};
 ghost use Rattle.monitor.specs.History.{History, OfBytes, play};
 ghost use Rattle.monitor.specs.Report.{afterPage, pageAnswer, afterSettingsBack, settingsBackAnswer};
 ghost use Rattle.monitor.specs.Claims.{pageByFacts, settingsByFacts};
-use crate::answers::Answer;
 use crate::record::Monitor;
 use crate::refusals;
 use crate::settings;
+use logpage::Answer;
 use logpage::LogPage;
 
 impl Monitor {

@@ -8,8 +8,8 @@ ghost use lib.ListN.{length};
 ghost use Rattle.monitor.specs.Answers.{done, saysAnswer, unlessRefused};
 ghost use Rattle.monitor.specs.Settings.{decoded, encoded};
 ghost use Rattle.monitor.specs.Refusals.{settingsRefusal, fieldRefusal, eitherAbove, unordered};
-use crate::answers::Answer;
 use crate::refusals;
+use logpage::Answer;
 use logpage::DebugLog;
 use logpage::Settings;
 
@@ -60,7 +60,7 @@ pub(crate) fn encode(s: Settings) -> [u8; 4096]
         s.enabled as u64,
     ];
     let mut bytes = [0; 4096];
-    endian::put_fields(&mut bytes, 0, &widths, &values);
+    endian::put_fields(&mut bytes, &widths, &values);
     bytes
 }
 

@@ -9,18 +9,19 @@ use native.Mathlib.Omega.{arith}
 use lib.ListN.{getD, length}
 use lib.Pow.{pow-lt}
 use Rattle.logpage.specs.declared.Settings.{Settings}
-use Rattle.logpage.proofs.Apart.{FitsSettings, FitsWindow, FitsDebug, Fits}
-use Rattle.logpage.specs.Fields.{noSettings, noDebugLog}
+use Rattle.logpage.specs.Fields.{noSettings, noDebugLog, from, FitsSettings, FitsWindow, FitsDebug, Fits}
+use Rattle.endian.specs.Bytes.{Bytes}
+use Rattle.endian.proofs.Layouts.{byte-at}
 use Rattle.monitor.specs.declared.commands.Command.{Command}
 use Rattle.monitor.specs.Commands.{counterOf, millisecondsOf}
 use Rattle.monitor.specs.Facts.{inForce, sum, enablingIn, enablingIn, timerThreshold, enabledTime, whileEnabled}
 use Rattle.monitor.specs.Facts.{windowAt, timerAt, Counted, countedAt, filter, countOf, lastLoad, stampOf}
 use Rattle.monitor.specs.Facts.{latencyOf, triggered, discardIn, orEarliest, earliest, logOf, debugAt, active}
 use Rattle.monitor.specs.Facts.{static}
-use Rattle.monitor.specs.Facts.{from, windowFrom, factsOf}
+use Rattle.monitor.specs.Facts.{windowFrom, factsOf}
 use Rattle.monitor.specs.History.{asked, Call, settings, completion, elapsed, clock, powerUp, page, settingsBack}
 use Rattle.monitor.specs.History.{unlessFound, onlyIf}
-use Rattle.monitor.specs.History.{History, Bytes, OfBytes, Effect, configured, completed, passed}
+use Rattle.monitor.specs.History.{History, OfBytes, Effect, configured, completed, passed}
 use Rattle.monitor.specs.History.{clockSet, poweredUp, nothing, ifAccepted, effectOf, Past, pastOf, settingsIn}
 use Rattle.monitor.specs.History.{completionIn, found, orElse, latest, andThen, since}
 use Rattle.monitor.specs.Refusals.{settingsRefusal, elapsedRefusal, clockRefusal, pageRefusal}
@@ -63,11 +64,6 @@ module _ {A : Type 0} (P : A → Type 0) where
       by none (some x) q earlier = (q, earlier)
 
 -- settings made of bytes
-pub byte-at : (s : List ℕ) → Bytes s → (i : ℕ) → getD s i 0 < 256
-byte-at [] b i = omega arith
-byte-at (x ∷ s) b zero = b .0
-byte-at (x ∷ s) b (suc i) = byte-at s (b .1) i
-
 settings-of-bytes : (s : List ℕ) → Bytes s → FitsSettings (decoded s)
 unfolding decoded
 settings-of-bytes s b =

@@ -8,14 +8,14 @@ use native.Mathlib.Omega.{arith}
 use lib.Dec.{leb, eqb·suc-suc, ltb}
 use lib.ListN.{replicate}
 use borrow.Author.Tests.{ne-eqb, lt-ltb, le-ltb, le-leb, lt-leb, leb-true, leb-false}
-use Rattle.logpage.specs.Fields.{emptyWindow}
+use Rattle.logpage.specs.Fields.{emptyWindow, each}
 use Rattle.monitor.specs.declared.record.Monitor.{Monitor}
 use Rattle.monitor.specs.declared.timer.Tick.{Tick}
 use Rattle.monitor.specs.Claims.{loadedOf, recordOf}
 use Rattle.monitor.specs.Facts.{inForce, sum, clockAt, hostSetAt, timerThreshold, enabledTime, windowAt, timerAt}
 use Rattle.monitor.specs.Facts.{Counted}
 use Rattle.monitor.specs.Facts.{filter, activeFor, active, static, countOf, lastLoad, stampOf, latencyOf, unitsOf}
-use Rattle.monitor.specs.Facts.{each, windowFrom, debugAt, sinceEnabled}
+use Rattle.monitor.specs.Facts.{windowFrom, debugAt, sinceEnabled}
 use Rattle.monitor.specs.History.{passed, Past, latest, since}
 use Rattle.monitor.specs.Answers.{ended}
 use Rattle.monitor.specs.Record.{noLoads, afterElapsed, elapsedAnswer}

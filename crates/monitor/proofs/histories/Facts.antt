@@ -8,7 +8,7 @@ use native.Mathlib.Nat.{div-add-mod'}
 use native.Mathlib.Omega.{arith}
 use borrow.Author.Tests.{eqb-true}
 use lib.Dec.{eqb}
-use Rattle.logpage.specs.Fields.{noSettings}
+use Rattle.logpage.specs.Fields.{noSettings, each}
 use Rattle.logpage.specs.declared.DebugLog.{DebugLog}
 use Rattle.logpage.specs.declared.Settings.{Settings}
 use Rattle.monitor.specs.declared.record.Monitor.{Monitor}
@@ -17,7 +17,7 @@ use Rattle.monitor.specs.Claims.{loadedOf, recordOf}
 use Rattle.monitor.specs.Facts.{inForce, sum, time, clockAt, hostSetAt, timerThreshold, enabledTime, windowAt}
 use Rattle.monitor.specs.Facts.{timerAt}
 use Rattle.monitor.specs.Facts.{Counted, filter, activeFor, active, static, orLoad, loadsAfter, lastLoad}
-use Rattle.monitor.specs.Facts.{each, windowFrom, debugAt, sinceEnabled}
+use Rattle.monitor.specs.Facts.{windowFrom, debugAt, sinceEnabled}
 use Rattle.monitor.specs.History.{Effect, configured, completed, passed, clockSet, poweredUp, nothing, Past}
 use Rattle.monitor.specs.History.{unlessFound, onlyIf}
 use Rattle.monitor.specs.History.{found, latest, since, andThen}

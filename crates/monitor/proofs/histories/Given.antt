@@ -11,15 +11,17 @@ use lib.Seq.{drop-cons}
 use borrow.Author.Tests.{eqb-true, eqb-false, ltb-false}
 use Rattle.endian.specs.Stores.{lowFirst}
 use Rattle.endian.proofs.Bytes.{none-set}
+use Rattle.endian.proofs.Layouts.{byte-at}
 use Rattle.logpage.specs.Block.{flag}
-use Rattle.logpage.specs.Fields.{noSettings}
+use Rattle.logpage.specs.Fields.{noSettings, from}
 use Rattle.logpage.specs.Page.{pageBytes}
+use Rattle.endian.specs.Bytes.{Bytes}
 use Rattle.monitor.specs.Claims.{recordOf, PageShowsFacts, SettingsShowFacts, lastAccepted, SettingsComeBack}
-use Rattle.monitor.specs.Facts.{inForce, from, factsOf}
-use Rattle.monitor.specs.History.{Bytes, settingsIn, found, latest, pastOf}
+use Rattle.monitor.specs.Facts.{inForce, factsOf}
+use Rattle.monitor.specs.History.{settingsIn, found, latest, pastOf}
 use Rattle.monitor.specs.Report.{fieldsOf, pageOf, settingsOf}
 use Rattle.monitor.specs.Settings.{decoded, encoded, discard, enable}
-use Rattle.monitor.proofs.histories.Bounds.{Sound, sound-past, byte-at, latest-some}
+use Rattle.monitor.proofs.histories.Bounds.{Sound, sound-past, latest-some}
 use Rattle.monitor.proofs.histories.Lists.{Some}
 use Rattle.monitor.proofs.histories.Play.{played-as-facts}
 use Rattle.monitor.proofs.refusals.Laws.{Accepted, accepted}

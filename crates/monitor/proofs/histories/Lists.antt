@@ -9,7 +9,8 @@ use native.Mathlib.Omega.{arith}
 use lib.Dec.{eqb}
 use lib.ListN.{getD, set, replicate, length}
 use borrow.Author.Tests.{eq-eqb, ne-eqb}
-use Rattle.monitor.specs.Facts.{Counted, filter, from}
+use Rattle.logpage.specs.Fields.{from}
+use Rattle.monitor.specs.Facts.{Counted, filter}
 
 module _ {A : Type 0} where
   pub from-at : (i n : ℕ) (f : ℕ → A) (j : ℕ) (d : A) → j < n → getD (from i n f) j d ≡ f (i + j)

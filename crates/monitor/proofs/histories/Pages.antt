@@ -5,10 +5,11 @@ use mathlib.Core.Bool.{false}
 use mathlib.Core.List.{List}
 use lib.ListN.{getD}
 use native.Mathlib.Nat.{zero-add}
-use Rattle.logpage.proofs.Apart.{page-apart}
 use Rattle.logpage.specs.Page.{pageBytes}
+use Rattle.logpage.specs.Fields.{each}
+use Rattle.logpage.proofs.Written.{page-apart}
 use Rattle.monitor.specs.Claims.{SameCounter, Agree, PagesAgree}
-use Rattle.monitor.specs.Facts.{active, static, Counted, countOf, lastLoad, stampOf, latencyOf, unitsOf, each}
+use Rattle.monitor.specs.Facts.{active, static, Counted, countOf, lastLoad, stampOf, latencyOf, unitsOf}
 use Rattle.monitor.specs.Facts.{windowFrom, factsOf}
 use Rattle.monitor.specs.History.{Past, pastOf}
 use Rattle.monitor.proofs.histories.Bounds.{facts-fit}

@@ -8,12 +8,12 @@ use native.Mathlib.Nat.{zero-div, zero-mul}
 use native.Mathlib.Omega.{arith}
 use lib.Dec.{eqb, ltb}
 use borrow.Author.Tests.{le-ltb}
-use Rattle.logpage.specs.Fields.{emptyWindow, noDebugLog}
+use Rattle.logpage.specs.Fields.{emptyWindow, noDebugLog, from}
 use Rattle.monitor.specs.declared.record.Monitor.{Monitor}
 use Rattle.monitor.specs.Answers.{refused, ended, unlessRefused}
 use Rattle.monitor.specs.Claims.{recordOf, PlayedAsFacts, WindowEnds}
 use Rattle.monitor.specs.Facts.{inForce, sum, clockAt, hostSetAt, timerThreshold, enabledTime, windowAt, timerAt}
-use Rattle.monitor.specs.Facts.{Counted, countedAt, filter, active, static, countOf, lastLoad, from, discardIn}
+use Rattle.monitor.specs.Facts.{Counted, countedAt, filter, active, static, countOf, lastLoad, discardIn}
 use Rattle.monitor.specs.Facts.{triggered, earliest, logOf, debugAt, sinceEnabled}
 use Rattle.monitor.specs.History.{Call, settings, completion, elapsed, clock, powerUp, page, settingsBack}
 use Rattle.monitor.specs.History.{History, after, playFrom, Effect, configured, clockSet, poweredUp, nothing}

@@ -9,7 +9,8 @@ use lib.Dec.{eqb}
 use lib.ListN.{length, drop}
 use borrow.Author.Tests.{eqb-true, eqb-false, ltb-false}
 use Rattle.endian.specs.Bytes.{anySet}
-use Rattle.monitor.specs.Refusals.{row, eitherAbove, unordered, fieldRefusal, settingsRefusal, elapsedRefusal}
+use Rattle.logpage.specs.Answers.{row}
+use Rattle.monitor.specs.Refusals.{eitherAbove, unordered, fieldRefusal, settingsRefusal, elapsedRefusal}
 use Rattle.monitor.specs.Refusals.{clockRefusal}
 use Rattle.monitor.specs.Settings.{discard, enable, decoded}
 

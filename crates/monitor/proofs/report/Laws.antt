@@ -1,11 +1,13 @@
 -- What the calls that only read come to, as laws over plain values.
-use mathlib.Core.Path.{_≡_, ap, _∙_}
+use mathlib.Core.Path.{_≡_, sym, ap, _∙_}
 use mathlib.Core.Bool.{true, false, cond}
 use mathlib.Core.List.{List}
 use Prim.Native.Nat.{ℕ}
 use lib.Dec.{eqb}
 use lib.ListN.{length}
+use lib.Seq.{sets}
 use borrow.Author.Tests.{eq-eqb, ne-eqb}
+use Rattle.endian.proofs.Runs.{sets-whole}
 use Rattle.logpage.specs.Page.{pageBytes}
 use Rattle.monitor.specs.declared.record.Monitor.{Monitor}
 use Rattle.monitor.specs.Answers.{CallAnswer, done, refused}
@@ -17,6 +19,7 @@ use Rattle.monitor.specs.Report.{fieldsOf, pageOf, afterPage, pageAnswer
 use Rattle.monitor.specs.Report.{settingsBackAnswer}
 use Rattle.monitor.specs.Settings.{encoded}
 use Rattle.monitor.proofs.histories.Given.{page-shows-facts, settings-come-back}
+use Rattle.monitor.proofs.settings.Laws.{length-encoded}
 
 module _ (m : Monitor) (buffer after : List ℕ) where
   -- what `page` promises
@@ -60,10 +63,18 @@ module _ (m : Monitor) (buffer after : List ℕ) where
   settings-by-facts e h b leads =
       e ∙ ap (untouchedIf (settingsBackRefusal (length buffer)) buffer) (ap settingsOf leads ∙ settings-come-back h b)
 
-  pub settings-written : length buffer ≡ 4096 → after ≡ encoded (m .settings) → SettingsSay done
+  pub settings-written :
+      (bytes : List ℕ) →
+      length buffer ≡ 4096 →
+      bytes ≡ encoded (m .settings) →
+      after ≡ sets buffer 0 bytes →
+      SettingsSay done
   unfolding afterSettingsBack settingsBackAnswer settingsBackRefusal settingsOf
-  settings-written fits bytes =
-      let e : after ≡ afterSettingsBack m buffer = bytes ∙ rw (eq-eqb (length buffer) 4096 fits) in
+  settings-written bytes fits made copied =
+      let whole = sets-whole buffer (encoded (m .settings)) (length-encoded (m .settings) ∙ sym fits) in
+      let e : after ≡ afterSettingsBack m buffer =
+      copied ∙ ap (sets buffer 0) made ∙ whole ∙ rw (eq-eqb (length buffer) 4096 fits)
+      in
       (e, (rw (eq-eqb (length buffer) 4096 fits), settings-by-facts e))
 
   pub settings-refused : (length buffer ≡ 4096 → ⊥) → after ≡ buffer → SettingsSay (refused 10)

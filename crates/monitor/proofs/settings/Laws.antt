@@ -86,3 +86,7 @@ pub encodes :
     ≡ encoded s
 unfolding fields lowFirst encoded
 encodes s = refl
+
+pub length-encoded : (s : Settings) → length (encoded s) ≡ 4096
+unfolding lowFirst encoded
+length-encoded s = refl

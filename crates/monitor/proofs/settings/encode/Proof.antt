@@ -1,6 +1,5 @@
 -- `encode`: its fields are the bytes.
 use mathlib.Core.Path.{_∙_}
-use Rattle.endian.specs.Stores.{total}
 use Rattle.monitor.proofs.settings.Laws.{encodes}
 use borrow.Author.Needs.{needs}
 use Rattle.monitor.proofs.settings.encode.Statement.{statement}
@@ -55,7 +54,6 @@ slice-aggregate-put-fields-3 : tie.Need-slice-aggregate-put-fields-3
 slice-aggregate-put-fields-3 c = search needs
 
 put-fields-requires : tie.Need-put-fields-requires
-unfolding total
 put-fields-requires c κs = search needs
 
 returns : tie.Need-returns

@@ -1,5 +1,5 @@
 -- `settings_back`: the settings are copied, or the buffer is not 4,096 bytes.
-use mathlib.Core.Path.{refl, _∙_}
+use mathlib.Core.Path.{refl}
 use Rattle.monitor.proofs.report.Laws.{settings-written, settings-refused}
 use borrow.Author.Needs.{needs}
 use Rattle.monitor.proofs.record.Monitor.settings_back.Statement.{statement}
@@ -22,8 +22,9 @@ returns c =
     let copied = c .before .before in
     let encoded = copied .before .before .before in
     let start = encoded .before .before .before in
-    settings-written (start .args .self) (start .args .s .now) _ (encoded .before .if1 .taken)
-    (copied .copy .ensures ∙ encoded .encode .ensures)
+    settings-written (start .args .self) (start .args .s .now) _ _ (encoded .before .if1 .taken)
+    (encoded .encode .ensures)
+    (copied .copy .ensures)
 
 returns-2 : tie.Need-returns-2
 returns-2 c =
