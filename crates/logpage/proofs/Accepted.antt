@@ -1,7 +1,7 @@
 -- What is accepted is written again as the same bytes.
 use mathlib.Core.Bool.{Bool, true, false, not, cond, true≢false}
 use mathlib.Core.List.{List, [], _∷_, _++_}
-use mathlib.Core.Option.{Option, none, some}
+use mathlib.Core.Option.{none}
 use mathlib.Core.Path.{_≡_, refl, sym, ap, _∙_}
 use Prim.Native.Nat.{ℕ, _+_, _-_, _*_, _^_, _<_, _≤_}
 use native.Mathlib.Omega.{arith}
@@ -16,7 +16,6 @@ use Rattle.endian.specs.Stores.{fields, total}
 use Rattle.endian.proofs.Bytes.{none-set}
 use Rattle.endian.proofs.Layouts.{narrow, bytes-take, bytes-drop, bytes-back}
 use Rattle.endian.proofs.Numbers.{clear-zero}
-use Rattle.logpage.specs.Answers.{row, all}
 use Rattle.logpage.specs.Block.{zeros, bits, flags, buckets, downward, blockWidths, blockValues, blockBytes}
 use Rattle.logpage.specs.BlockReader.{windowIn, ofTwelve, clear, windowFits, blockKeeps, blockFits}
 use Rattle.logpage.specs.Claims.{WrittenAgain, SourceOfCounter}
@@ -27,7 +26,7 @@ use Rattle.logpage.specs.Reader.{headIn, tailIn, identityIn, settingsFro
 use Rattle.logpage.specs.Reader.{debugHeld, debugCounter, debugFits, pageKeeps, pageFits, identified, readRefusal}
 use Rattle.logpage.specs.declared.Window.{Window}
 use Rattle.logpage.proofs.OneBit.{source-bit}
-use Rattle.logpage.proofs.Lists.{passed, flag-again, bits-again}
+use Rattle.logpage.proofs.Lists.{no-row, passed, flag-again, bits-again}
 
 -- a part that is clear
 clear-part : (l : List ℕ) (at n : ℕ) → at + n ≤ length l → clear at n l ≡ true → part at n l ≡ zeros n
@@ -68,13 +67,6 @@ block-again block b n fit =
 -- a part in two
 split-part : (l : List ℕ) (at n m : ℕ) → part at (n + m) l ≡ part at n l ++ part (at + n) m l
 split-part l at n m = take-add n m (drop at l) ∙ rw (drop-drop n at l)
-
--- rows of which none turns away
-no-row : (n : ℕ) (t : Bool) (later : Option ℕ) → row n t later ≡ none → (t ≡ false) × (later ≡ none)
-no-row n false later e = (refl, e)
-no-row n true later e =
-    let z : _≡_ {A = ℕ} 0 1 = cc in
-    absurd (omega arith)
 
 -- what an accepted page keeps
 module _ (page : List ℕ) (ok : readRefusal page ≡ none) where

@@ -1,14 +1,15 @@
 -- Laws of lists and of tests, which know nothing of the page.
 use mathlib.Core.Bool.{Bool, true, false, _&&_, false≢true}
 use mathlib.Core.List.{List, [], _∷_}
+use mathlib.Core.Option.{Option, none}
 use mathlib.Core.Path.{_≡_, refl, ap, _∙_}
-use Prim.Native.Nat.{ℕ, zero, suc, _+_, _*_, _/_, _%_, _^_, _<_}
+use Prim.Native.Nat.{ℕ, zero, suc, _+_, _*_, _/_, _%_, _^_, _<_, _≤_}
 use native.Mathlib.Nat.{pow-succ'}
 use native.Mathlib.Omega.{arith}
 use borrow.Author.Tests.{eq-eqb, ne-eqb, eqb-true, eqb-false}
 use lib.Dec.{eqb}
 use lib.ListN.{length, getD}
-use Rattle.logpage.specs.Answers.{passes, all}
+use Rattle.logpage.specs.Answers.{row, passes, all}
 use Rattle.logpage.specs.Block.{flag, bits, flags}
 use Rattle.logpage.specs.Fields.{from, each}
 
@@ -26,6 +27,11 @@ entries d (x ∷ l) = ap (λ t. x ∷ t) (from-later x d l 0 (length l) ∙ entr
 pub twelve : {A : Type 0} (d : A) (l : List A) → length l ≡ 12 → each (λ k. getD l k d) ≡ l
 twelve d l h = rw h at (entries d l)
 
+-- a row that does not turn away
+pub no-row : (n : ℕ) (t : Bool) (later : Option ℕ) → row n t later ≡ none → (t ≡ false) × (later ≡ none)
+no-row n false later e = (refl, e)
+no-row n true later e = let never : _≡_ {A = ℕ} 0 1 = cc in absurd (omega arith)
+
 -- tests that all pass
 passed-before : (so-far : Bool) (tests : List Bool) → passes so-far tests ≡ true → so-far ≡ true
 passed-before true tests e = refl
@@ -37,6 +43,12 @@ passed [] e k = refl
 passed (t ∷ tests) e zero = passed-before t tests e
 passed (true ∷ tests) e (suc k) = passed tests e k
 passed (false ∷ tests) e (suc k) = absurd (false≢true (passed-before false tests e))
+
+pub all-pass : (test : ℕ → Bool) (i n : ℕ) → ((k : ℕ) → i ≤ k → k < i + n → test k ≡ true) → all (from i n test) ≡ true
+unfolding from
+all-pass test i zero h = refl
+all-pass test i (suc n) h =
+    rw (h i (omega arith) (omega arith)) (all-pass test (suc i) n (λ k l m. h k (omega arith) (omega arith)))
 
 -- a flag as a number, and back
 pub flag-back : (b : Bool) → eqb (flag b) 1 ≡ b

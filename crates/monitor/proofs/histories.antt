@@ -7,3 +7,4 @@ pub mod Play
 pub mod Bounds
 pub mod Given
 pub mod Pages
+pub mod ReadBack

@@ -2,11 +2,12 @@
 use mathlib.Core.Path.{_≡_}
 use mathlib.Core.List.{List, _∷_}
 use mathlib.Core.Logic.{_↔_}
-use mathlib.Core.Option.{Option}
+use mathlib.Core.Option.{Option, none}
 use Prim.Native.Nat.{ℕ, _*_, _%_, _<_}
 use lib.Dec.{ltb}
 use lib.ListN.{length, set, replicate}
 use Rattle.logpage.specs.Page.{pageBytes}
+use Rattle.logpage.specs.Reader.{shown, readRefusal, readingOf}
 use Rattle.logpage.specs.Fields.{each}
 use Rattle.monitor.specs.Facts.{inForce, clockAt, hostSetAt, timerThreshold, enabledTime, windowAt, timerAt}
 use Rattle.monitor.specs.Facts.{Counted, active, static, countOf, lastLoad, stampOf, latencyOf, unitsOf}
@@ -54,6 +55,13 @@ WindowEnds =
 -- Demand 2, the page: after any history it is the page table, filled with the facts
 abbrev pub PageShowsFacts : Type 0
 PageShowsFacts = (h : History) → pageOf (play h) ≡ pageBytes (factsOf (pastOf h))
+
+-- 02, Ticket 1: after any history the page is accepted, and read as the facts behind it
+abbrev pub PageReadBack : Type 0
+PageReadBack =
+    (h : History) →
+    OfBytes h →
+    (readRefusal (pageOf (play h)) ≡ none) × (readingOf (pageOf (play h)) ≡ shown (factsOf (pastOf h)))
 
 -- Demand 2, the settings given back: they are the settings table, filled with the settings in force
 abbrev pub SettingsShowFacts : Type 0

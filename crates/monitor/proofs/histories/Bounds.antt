@@ -206,10 +206,10 @@ latency-below none = omega arith
 latency-below (some x) = ms-below (x .command)
 
 -- the debug log
-abbrev OfTwelve : Counted → Type 0
+abbrev pub OfTwelve : Counted → Type 0
 OfTwelve x = x .counter < 12
 
-few : (e : Effect) (past : Past) → Some OfTwelve (countedAt e past)
+pub few : (e : Effect) (past : Past) → Some OfTwelve (countedAt e past)
 few e past = by (completionIn e)
   where
     named :
@@ -225,7 +225,7 @@ few e past = by (completionIn e)
     by none = tt
     by (some c) = named c (counterOf (inForce past) c) refl
 
-first-some : (P : Counted → Type 0) (xs : List Counted) → All P xs → Some P (earliest xs)
+pub first-some : (P : Counted → Type 0) (xs : List Counted) → All P xs → Some P (earliest xs)
 unfolding earliest
 first-some P [] a = tt
 first-some P (x ∷ xs) a = by (earliest xs) (first-some P xs (a .1))
