@@ -2,8 +2,8 @@
 use mathlib.Core.Path.{refl}
 use mir.Syntax.{w8}
 use denote.Plain.{UInt}
-use Rattle.monitor.proofs.answers.Answer as N
-use Rattle.monitor.proofs.answers.Answer.Laws as N′
+use Rattle.logpage.proofs.answers.Answer as N
+use Rattle.logpage.proofs.answers.Answer.Laws as N′
 use Rattle.monitor.proofs.answers.CompletionAnswer as CN
 use Rattle.monitor.proofs.answers.CompletionAnswer.Laws as CN′
 use Rattle.monitor.proofs.answers.ElapsedAnswer as EN

@@ -42,9 +42,9 @@ use denote.Triple.Clauses.{Ended, Clauses, AtExit, closing, ensured, lasts}
 use denote.Triple.Walked.{says, Stays, stay-dropped, gave-slice, walkOf, goes-dropped, goes-gave-slice, ends-at, walked}
 use denote.Exit.{yes}
 use Rattle.monitor.specs.declared.record.Monitor.{Monitor}
-use Rattle.monitor.specs.declared.answers.Answer.{Answer}
+use Rattle.logpage.specs.declared.answers.Answer.{Answer}
 use Rattle.monitor.specs.Answers.{CallAnswer, saysAnswer}
-use Rattle.monitor.proofs.answers.Answer as N
+use Rattle.logpage.proofs.answers.Answer as N
 use Rattle.monitor.proofs.record.Monitor as Mon
 use Rattle.monitor.proofs.record.Monitor.Laws as Mon′
 use Rattle.latency_monitor.specs.Answers.{asRefusal}

@@ -6,9 +6,9 @@ use Prim.Native.Nat.{ℕ, zero, suc, _+_, _-_, _*_, _/_, _%_, _^_, _<_, _≤_}
 use native.Mathlib.Nat.{sub-zero}
 use native.Mathlib.Omega.{arith}
 use lib.ListN.{length, take, drop, length-append, length-take, length-drop}
-use lib.Seq.{sets, sets-eq, take-append-seam, drop-drop}
+use lib.Seq.{sets, take-append-seam, drop-drop}
 use borrow.Rule.Slice.PartMut.{putMid}
-use Rattle.endian.proofs.Runs.{run-left}
+use Rattle.endian.proofs.Runs.{run-left, run-part}
 use Rattle.monitor.specs.Answers.{refused, done, unlessRefused}
 use Rattle.monitor.specs.History.{found, orElse}
 use Rattle.text.specs.declared.lines.Line.{Line}
@@ -29,17 +29,15 @@ pub line-put :
     line ≡ asLine t →
     line .len ≤ 50 →
     at + 50 ≤ length out →
-    last ≡ take (line .len) (line .bytes) →
+    last ≡ sets (take (at + line .len - at) (drop at out)) 0 (take (line .len) (line .bytes)) →
     Stored t at 50 out (putMid at (at + line .len - at) out last) (line .len)
 unfolding asLine
 line-put line t out last at e le room copied =
     let size : line .len ≡ length t = ap (λ (l : Line). l .len) e in
     let k : at + line .len - at ≡ length t = omega arith in
-    let there : last ≡ t = copied ∙ line-text line t e in
+    let there : last ≡ sets (take (at + line .len - at) (drop at out)) 0 t = copied ∙ rw (line-text line t e) in
     record {
-      content =
-          rw (k, there, drop-drop (length t) at out)
-          (sym (sets-eq t out at (omega arith) ∙ append-assoc (take at out) t (drop (at + length t) out)));
+      content = run-part out last t at (at + line .len) (length t) k (omega arith) refl there;
       exact = size;
       within = le;
     }

@@ -1,7 +1,6 @@
 -- `put_line`: the line's bytes are copied to their place.
 use mathlib.Core.Path.{sym}
 use native.Mathlib.Omega.{arith}
-use lib.ListN.{length-take, length-drop}
 use lib.Seq.{length-take-le}
 use borrow.Author.Needs.{needs}
 use Rattle.events.proofs.blocks.Laws.{line-put}
@@ -30,9 +29,7 @@ slice-aggregate-copy : tie.Need-slice-aggregate-copy
 slice-aggregate-copy c = sym (length-take-le _ _ (c .before .before .before .refused-record .ensures .1 .0))
 
 copy-requires : tie.Need-copy-requires
-copy-requires c κs =
-    let line = c .before .before .before .refused-record .ensures .1 in
-    simp (length-take, length-drop) (omega (arith, line .0, line .1))
+copy-requires c κs = search needs
 
 same-length : tie.Need-same-length
 same-length c = search needs
