@@ -20,6 +20,10 @@ use Rattle.latency_monitor.proofs.answers.PlainCompletionAnswer as CR
 use Rattle.latency_monitor.proofs.answers.PlainCompletionAnswer.Laws as CR′
 use Rattle.latency_monitor.proofs.answers.PlainElapsedAnswer as ER
 use Rattle.latency_monitor.proofs.answers.PlainElapsedAnswer.Laws as ER′
+use Rattle.logpage.proofs.reader.Reading as Rd
+use Rattle.logpage.proofs.reader.Reading.Laws as Rd′
+use Rattle.latency_monitor.proofs.reading.ReadOutcome as RO
+use Rattle.latency_monitor.proofs.reading.ReadOutcome.Laws as RO′
 use Rattle.latency_monitor.proofs.PlainData.{Plain, plain-uint, plain-struct, plain-enum, three-variants, Way, by-case}
 use Rattle.latency_monitor.proofs.PlainData.{Outcome, outcome-struct}
 
@@ -64,3 +68,12 @@ plain-completion-answer = plain-struct CR.the-type CR′.the-laws CR′.the-plai
 
 abbrev pub plain-elapsed-answer : Plain ER.the-row
 plain-elapsed-answer = plain-struct ER.the-type ER′.the-laws ER′.the-plain ER′.the-copy
+
+-- the fields of a page, which `read_page` fills
+abbrev pub fields : Plain Rd.the-row
+fields = plain-struct Rd.the-type Rd′.the-laws Rd′.the-plain Rd′.the-copy
+
+abbrev pub read-outcome : Outcome fields answer
+read-outcome =
+    outcome-struct fields answer RO.the-type RO′.the-laws (λ o. o .next) (λ o. o .answer) refl (λ o. refl)
+    (λ o each. (each .0, each .1 .0))

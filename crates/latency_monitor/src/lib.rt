@@ -1,7 +1,9 @@
 // The firmware's boundary: the record is lent for each call, in C's calling convention. Each function calls the
 // monitor's rule on the record, stores the record that comes back, and gives the answer as numbers;
-// include/latency_monitor.h declares them. `page` and `settings_back` only read the record.
+// include/latency_monitor.h declares them. `page` and `settings_back` only read the record; `read_page` has no part in
+// it, and fills the fields of a page that are lent.
 mod answers;
+mod reading;
 
 pub use answers::PlainCompletionAnswer;
 pub use answers::PlainElapsedAnswer;
@@ -12,6 +14,8 @@ ghost use Rattle.monitor.specs.Record.{newMonitor, afterSettings, settingsAnswe
 ghost use Rattle.monitor.specs.Record.{afterElapsed, elapsedAnswer, afterClock, clockAnswer, afterPowerUp};
 ghost use Rattle.monitor.specs.Report.{afterPage, pageAnswer, afterSettingsBack, settingsBackAnswer};
 ghost use Rattle.latency_monitor.specs.Answers.{asRefusal, asCompletion, asElapsed};
+ghost use Rattle.latency_monitor.specs.Reading.{afterRead, readAnswer};
+use logpage::Reading;
 use monitor::Command;
 use monitor::CompletionAnswer;
 use monitor::ElapsedAnswer;
@@ -119,4 +123,15 @@ pub extern "C" fn latency_monitor_settings_back(m: &Monitor, s: &mut [u8]) -> u8
     ensures answer { λ r. ⌜ r ≡ asRefusal (settingsBackAnswer (length (now (s .entry)))) ⌝ }
 {
     answers::refusal(Monitor::settings_back(*m, s))
+}
+
+// A page of 512 bytes read back into its fields.
+#[no_mangle]
+pub extern "C" fn latency_monitor_read_page(fields: &mut Reading, page: &[u8]) -> u8
+    ensures next { λ _. ⌜ now (fields .exit) ≡ afterRead (now (fields .entry)) (now (page .entry)) ⌝ }
+    ensures answer { λ r. ⌜ r ≡ asRefusal (readAnswer (now (page .entry))) ⌝ }
+{
+    let o = reading::read_into(*fields, page);
+    *fields = o.next;
+    answers::refusal(o.answer)
 }

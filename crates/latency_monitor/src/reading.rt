@@ -1,0 +1,33 @@
+// A page read back into fields that are lent.
+ghost use mathlib.Core.Path.{_≡_};
+ghost use Rattle.monitor.specs.Answers.{saysAnswer};
+ghost use Rattle.latency_monitor.specs.Reading.{afterRead, readAnswer};
+use logpage::Answer;
+use logpage::LogPage;
+use logpage::Reading;
+
+// The fields after a page was read, and the answer.
+pub struct ReadOutcome {
+    pub next: Reading,
+    pub answer: Answer,
+}
+
+// What the page shows; the old fields where it is turned away.
+pub(crate) fn read_into(old: Reading, page: &[u8]) -> ReadOutcome
+    ensures next { λ r. ⌜ r .next ≡ afterRead old (now (page .entry)) ⌝ }
+    ensures answer { λ r. ⌜ saysAnswer (r .answer) ≡ readAnswer (now (page .entry)) ⌝ }
+{
+    let read = LogPage::read(page);
+    let answer = read.answer;
+    match answer {
+        Answer::Refused(n) => {
+            let answer = Answer::Refused(n);
+            ReadOutcome { next: old, answer }
+        }
+        Answer::Done => {
+            let next = read.reading;
+            let answer = Answer::Done;
+            ReadOutcome { next, answer }
+        }
+    }
+}
