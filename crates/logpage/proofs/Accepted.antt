@@ -3,12 +3,12 @@ use mathlib.Core.Bool.{Bool, true, false, not, cond, true≢false}
 use mathlib.Core.List.{List, [], _∷_, _++_}
 use mathlib.Core.Option.{none}
 use mathlib.Core.Path.{_≡_, refl, sym, ap, _∙_}
-use Prim.Native.Nat.{ℕ, _+_, _-_, _*_, _^_, _<_, _≤_}
+use Prim.Native.Nat.{ℕ, _+_, _≤_}
 use native.Mathlib.Omega.{arith}
 use borrow.Author.Tests.{eqb-true, ltb-true, not-true, not-false}
 use lib.Count.{ones}
 use lib.Dec.{eqb, ltb}
-use lib.ListN.{length, getD, take, drop, length-drop, replicate}
+use lib.ListN.{length, getD, drop, length-drop}
 use lib.Seq.{take-all, take-add, drop-drop, length-take-le}
 use Rattle.endian.specs.Bytes.{Bytes, anySet}
 use Rattle.endian.specs.Loads.{number, part, valuesAt}
@@ -16,7 +16,7 @@ use Rattle.endian.specs.Stores.{fields, total}
 use Rattle.endian.proofs.Bytes.{none-set}
 use Rattle.endian.proofs.Layouts.{narrow, bytes-take, bytes-drop, bytes-back}
 use Rattle.endian.proofs.Numbers.{clear-zero}
-use Rattle.logpage.specs.Block.{zeros, bits, flags, buckets, downward, blockWidths, blockValues, blockBytes}
+use Rattle.logpage.specs.Block.{zeros, buckets, downward, blockWidths, blockValues, blockBytes}
 use Rattle.logpage.specs.BlockReader.{windowIn, ofTwelve, clear, windowFits, blockKeeps, blockFits}
 use Rattle.logpage.specs.Claims.{WrittenAgain, SourceOfCounter}
 use Rattle.logpage.specs.Fields.{unset, from}

@@ -1,11 +1,11 @@
 -- The lengths of the page's parts.
-use mathlib.Core.List.{List, [], _∷_, _++_}
-use mathlib.Core.Path.{_≡_, refl, _∙_}
+use mathlib.Core.List.{List, [], _∷_}
+use mathlib.Core.Path.{_≡_, refl}
 use Prim.Native.Nat.{ℕ, _*_}
 use native.Mathlib.Nat.{mul-suc}
 use native.Mathlib.Omega.{arith}
 use lib.ListN.{length, length-append}
-use Rattle.endian.specs.Stores.{lowFirst, fields, total}
+use Rattle.endian.specs.Stores.{fields, total}
 use Rattle.endian.proofs.Runs.{length-low, length-fields}
 use Rattle.logpage.specs.Block.{buckets, downward, column, blockWidths, blockValues, blockBytes}
 use Rattle.logpage.specs.Page.{headWidths, headValues, headBytes, windowsBytes, tailWidths, tailValues, tailBytes}

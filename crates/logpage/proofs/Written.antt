@@ -1,9 +1,9 @@
 -- What is written is read back.
-use mathlib.Core.Bool.{Bool, true, false}
-use mathlib.Core.List.{List, [], _∷_, _++_}
+use mathlib.Core.Bool.{Bool, true}
+use mathlib.Core.List.{List, [], _∷_}
 use mathlib.Core.Option.{none as no-refusal}
 use mathlib.Core.Path.{_≡_, refl, sym, ap, _∙_}
-use Prim.Native.Nat.{ℕ, _+_, _*_, _^_, _<_}
+use Prim.Native.Nat.{ℕ, _+_, _*_, _<_}
 use native.Mathlib.Omega.{arith}
 use borrow.Author.Tests.{lt-ltb}
 use lib.Dec.{lit<}
@@ -12,16 +12,14 @@ use Rattle.endian.specs.Bytes.{anySet}
 use Rattle.endian.specs.Loads.{part, valuesAt}
 use Rattle.endian.specs.Stores.{lowFirst, fields}
 use Rattle.endian.proofs.Layouts.{Fit, none, _▸_, narrow, values-back}
-use Rattle.logpage.specs.Block.{zeros, flag, bits, flags, buckets, downward, blockWidths, blockValues, blockBytes}
+use Rattle.logpage.specs.Block.{flag, bits, flags, buckets, downward, blockWidths, blockValues, blockBytes}
 use Rattle.logpage.specs.BlockReader.{windowIn, ofTwelve, clear, windowFits, blockKeeps, blockFits}
 use Rattle.logpage.specs.Claims.{ReadAsWritten}
-use Rattle.logpage.specs.Fields.{from, each, FitsSettings, FitsWindow, FitsDebug, Fits}
+use Rattle.logpage.specs.Fields.{from, FitsWindow, Fits}
 use Rattle.logpage.specs.Page.{headWidths, headValues, headBytes, windowsBytes, tailWidths, tailValues, tailBytes}
 use Rattle.logpage.specs.Page.{identityWidths, identityValues, pageBytes}
-use Rattle.logpage.specs.Reader.{headIn, tailIn, debugFrom, fieldsIn, shown, headFits, tailFits, debugFits, pageKeeps}
+use Rattle.logpage.specs.Reader.{headIn, tailIn, debugFrom, fieldsIn, headFits, tailFits, debugFits, pageKeeps}
 use Rattle.logpage.specs.Reader.{pageFits, identified, readRefusal, readingOf, fieldsFit}
-use Rattle.logpage.specs.declared.DebugLog.{DebugLog}
-use Rattle.logpage.specs.declared.Settings.{Settings}
 use Rattle.logpage.specs.declared.Window.{Window}
 use Rattle.logpage.specs.declared.page.LogPage.{LogPage}
 use Rattle.logpage.proofs.Lists.{entries, twelve, passed, flag-back, flags-back}

@@ -8,52 +8,33 @@ ghost use Rattle.logpage.specs.Block.{stampPlace, latencyPlace, buckets,
 use crate::Window;
 
 // Where each counter has its latency stamp in the block, by the counter's number.
-pub(crate) const STAMP_PLACES: [usize; 12] = [
-    152,
-    144,
-    136,
-    128,
-    120,
-    112,
-    104,
-    96,
-    88,
-    80,
-    72,
-    64,
-];
+pub const STAMPS_AT: [usize; 12] = [152, 144, 136, 128, 120, 112, 104, 96, 88, 80, 72, 64];
 
 // Where each counter has its measured latency.
-pub(crate) const LATENCY_PLACES: [usize; 12] = [
-    182,
-    180,
-    178,
-    176,
-    174,
-    172,
-    170,
-    168,
-    166,
-    164,
-    162,
-    160,
-];
+pub const LATENCIES_AT: [usize; 12] = [182, 180, 178, 176, 174, 172, 170, 168, 166, 164, 162, 160];
+
+// The widths of a block's fields: for the writer and the reader.
+pub const COUNTER: usize = 4;
+
+pub const STAMP: usize = 8;
+
+pub const LATENCY: usize = 2;
 
 // A bucket's fields: reserved, Deallocate, Write, Read.
-const BUCKET_WIDTHS: [usize; 4] = [4; 4];
+const BUCKET_WIDTHS: [usize; 4] = [COUNTER; 4];
 
 fn stamp_place(n: usize) -> usize
     requires { ⌜ n < 12 ⌝ }
     ensures { λ r. ⌜ r ≡ stampPlace n ⌝ }
 {
-    STAMP_PLACES[n]
+    STAMPS_AT[n]
 }
 
 fn latency_place(n: usize) -> usize
     requires { ⌜ n < 12 ⌝ }
     ensures { λ r. ⌜ r ≡ latencyPlace n ⌝ }
 {
-    LATENCY_PLACES[n]
+    LATENCIES_AT[n]
 }
 
 // The three counters of a bucket, into its 16 bytes.
@@ -91,7 +72,7 @@ fn put_stamps(block: &mut [u8], stamps: [u64; 12])
     while 0 < n {
         n -= 1;
         let at = stamp_place(n);
-        endian::put(&mut block[at..at + 8], stamps[n]);
+        endian::put(&mut block[at..at + STAMP], stamps[n]);
     }
 }
 
@@ -103,7 +84,7 @@ fn put_latencies(block: &mut [u8], latencies: [u16; 12])
     while 0 < n {
         n -= 1;
         let at = latency_place(n);
-        endian::put(&mut block[at..at + 2], latencies[n] as u64);
+        endian::put(&mut block[at..at + LATENCY], latencies[n] as u64);
     }
 }
 

@@ -32,7 +32,7 @@ fn read_counters(block: &[u8]) -> [u32; 12]
     let mut n = 0;
     while n < 12 {
         let at = counter_place(n);
-        counters[n] = endian::load(&block[at..at + 4]) as u32;
+        counters[n] = endian::load(&block[at..at + block::COUNTER]) as u32;
         n += 1;
     }
     counters
@@ -43,12 +43,12 @@ fn read_stamps(block: &[u8]) -> [u64; 12]
     requires { ⌜ length (now block) ≡ 186 ⌝ }
     ensures { λ r. ⌜ r ≡ each (λ n. number (part (stampPlace n) 8 (now (block .entry)))) ⌝ }
 {
-    let places = block::STAMP_PLACES;
+    let places = block::STAMPS_AT;
     let mut stamps = [0; 12];
     let mut n = 0;
     while n < 12 {
         let at = places[n];
-        stamps[n] = endian::load(&block[at..at + 8]);
+        stamps[n] = endian::load(&block[at..at + block::STAMP]);
         n += 1;
     }
     stamps
@@ -58,12 +58,12 @@ fn read_latencies(block: &[u8]) -> [u16; 12]
     requires { ⌜ length (now block) ≡ 186 ⌝ }
     ensures { λ r. ⌜ r ≡ each (λ n. number (part (latencyPlace n) 2 (now (block .entry)))) ⌝ }
 {
-    let places = block::LATENCY_PLACES;
+    let places = block::LATENCIES_AT;
     let mut latencies = [0; 12];
     let mut n = 0;
     while n < 12 {
         let at = places[n];
-        latencies[n] = endian::load(&block[at..at + 2]) as u16;
+        latencies[n] = endian::load(&block[at..at + block::LATENCY]) as u16;
         n += 1;
     }
     latencies

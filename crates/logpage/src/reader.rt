@@ -215,9 +215,10 @@ fn read_identified(page: &[u8]) -> PageRead
     if keeps(page, head, tail, active_window, static_window) {
         let settings = settings_from(head, tail);
         let debug = debug_from(tail);
+        let timer = head[2] as u16;
         let fields = LogPage {
             settings,
-            timer: head[2] as u16,
+            timer,
             active_window,
             static_window,
             debug,

@@ -1,12 +1,12 @@
 -- Laws of the lines of a block.
-use mathlib.Core.List.{List, [], _∷_, _++_, append-assoc}
+use mathlib.Core.List.{List, [], _∷_, _++_}
 use mathlib.Core.Option.{Option, none, some}
-use mathlib.Core.Path.{_≡_, refl, sym, ap, _∙_}
-use Prim.Native.Nat.{ℕ, zero, suc, _+_, _-_, _*_, _/_, _%_, _^_, _<_, _≤_}
+use mathlib.Core.Path.{_≡_, refl, ap, _∙_}
+use Prim.Native.Nat.{ℕ, zero, suc, _+_, _-_, _*_, _/_, _%_, _^_, _≤_}
 use native.Mathlib.Nat.{sub-zero}
 use native.Mathlib.Omega.{arith}
 use lib.ListN.{length, take, drop, length-append, length-take, length-drop}
-use lib.Seq.{sets, take-append-seam, drop-drop}
+use lib.Seq.{sets, take-append-seam}
 use borrow.Rule.Slice.PartMut.{putMid}
 use Rattle.endian.proofs.Runs.{run-left, run-part}
 use Rattle.monitor.specs.Answers.{refused, done, unlessRefused}

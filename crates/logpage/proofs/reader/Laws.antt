@@ -15,7 +15,6 @@ use Rattle.logpage.specs.Reader.{headFits, tailFits, pageKeeps, pageFits
 use Rattle.logpage.specs.declared.DebugLog.{DebugLog}
 use Rattle.logpage.specs.declared.Settings.{Settings}
 use Rattle.logpage.specs.declared.Window.{Window}
-use Rattle.logpage.specs.declared.page.LogPage.{LogPage}
 
 -- the values of a part's fields have no more bytes than those
 pub part-bounded :

@@ -6,7 +6,7 @@ use mathlib.Core.List.{List, [], _∷_}
 use mathlib.Core.Option.{Option, none, some}
 use native.Mathlib.Decide.{decLt}
 use native.Mathlib.Omega.{arith}
-use lib.ListN.{getD, length}
+use lib.ListN.{getD}
 use lib.Pow.{pow-lt}
 use Rattle.logpage.specs.declared.Settings.{Settings}
 use Rattle.logpage.specs.Fields.{noSettings, noDebugLog, from, FitsSettings, FitsWindow, FitsDebug, Fits}

@@ -15,7 +15,7 @@ use Rattle.monitor.specs.declared.record.Monitor.{Monitor}
 use Rattle.monitor.specs.Commands.{counterOf, millisecondsOf}
 use Rattle.monitor.specs.Counting.{bit, onceMore, loads, triggers, debugLog}
 use Rattle.monitor.specs.Claims.{loadedOf, recordOf}
-use Rattle.monitor.specs.Facts.{inForce, time, clockAt, hostSetAt, timerThreshold, enabledTime, windowAt, timerAt}
+use Rattle.monitor.specs.Facts.{inForce, clockAt, hostSetAt, timerThreshold, enabledTime, windowAt, timerAt}
 use Rattle.monitor.specs.Facts.{Counted, countedAt, filter, activeFor, staticFor, active, static, countOf}
 use Rattle.monitor.specs.Facts.{loadsAfter, orLoad, lastLoad, stampOf, latencyOf, windowFrom}
 use Rattle.monitor.specs.Facts.{discardIn, triggered, orEarliest, earliest, logOf, debugAt, sinceEnabled}

@@ -24,7 +24,7 @@ use Rattle.monitor.specs.Settings.{decoded, encoded, discard, enable}
 use Rattle.monitor.proofs.histories.Bounds.{Sound, sound-past, latest-some}
 use Rattle.monitor.proofs.histories.Lists.{Some}
 use Rattle.monitor.proofs.histories.Play.{played-as-facts}
-use Rattle.monitor.proofs.refusals.Laws.{Accepted, accepted}
+use Rattle.monitor.proofs.refusals.Laws.{Accepted}
 
 pub page-shows-facts : PageShowsFacts
 unfolding pageOf recordOf factsOf

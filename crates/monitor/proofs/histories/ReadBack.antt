@@ -1,19 +1,18 @@
 -- The page after a history is read as the facts behind it: these keep every rule of the page's layout.
-use Prim.Native.Nat.{ℕ, zero, _+_, _≤_, _<_, _^_}
-use mathlib.Core.Path.{_≡_, refl, sym, ap, _∙_}
+use Prim.Native.Nat.{ℕ, _≤_, _<_, _^_}
+use mathlib.Core.Path.{_≡_, refl}
 use mathlib.Core.Bool.{Bool, true, false, cond, _||_}
 use mathlib.Core.List.{List, [], _∷_}
 use mathlib.Core.Option.{Option, none, some}
 use native.Mathlib.Nat.{zero-add}
 use native.Mathlib.Omega.{arith}
-use lib.Dec.{eqb, ltb}
+use lib.Dec.{ltb}
 use lib.ListN.{getD}
 use lib.Pow.{pow-lt}
-use borrow.Author.Tests.{ltb-false, lt-ltb, eq-eqb, ne-eqb}
+use borrow.Author.Tests.{ltb-false, lt-ltb, ne-eqb}
 use Rattle.logpage.specs.BlockReader.{ofTwelve, counterFits, windowFits}
-use Rattle.logpage.specs.Fields.{unset, noSettings, noDebugLog, from, each}
-use Rattle.logpage.specs.Page.{pageBytes}
-use Rattle.logpage.specs.Reader.{debugFits, readRefusal, readingOf, shown, fieldsFit}
+use Rattle.logpage.specs.Fields.{unset, noSettings, noDebugLog, each}
+use Rattle.logpage.specs.Reader.{debugFits, fieldsFit}
 use Rattle.logpage.specs.declared.Settings.{Settings}
 use Rattle.logpage.proofs.Lists.{all-pass}
 use Rattle.logpage.proofs.OneBit.{ones-power}
@@ -29,7 +28,7 @@ use Rattle.monitor.proofs.histories.Bounds.{Sound, SoundPast, sound-pas
 use Rattle.monitor.proofs.histories.Bounds.{since-all, facts-fit}
 use Rattle.monitor.proofs.histories.Facts.{clock-top}
 use Rattle.monitor.proofs.histories.Given.{page-shows-facts}
-use Rattle.monitor.proofs.histories.Lists.{Some, all-those, from-at, from-same}
+use Rattle.monitor.proofs.histories.Lists.{Some, all-those, from-at}
 
 -- masks of the settings in force
 abbrev MasksFit : Settings → Type 0

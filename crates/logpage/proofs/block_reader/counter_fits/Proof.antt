@@ -1,5 +1,4 @@
 -- `counter_fits`, by whether the stamp is set.
-use borrow.Author.Needs.{needs}
 use borrow.Author.Tests.{eq-eqb, ne-eqb}
 use Rattle.logpage.specs.BlockReader.{counterFits}
 use Rattle.logpage.specs.Fields.{unset}

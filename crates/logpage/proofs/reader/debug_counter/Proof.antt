@@ -4,7 +4,6 @@ use borrow.Author.Tests.{eq-eqb, ne-eqb}
 use lib.Count.{trailing-le}
 use Rattle.logpage.specs.Fields.{unset}
 use Rattle.logpage.specs.Reader.{debugCounter}
-use borrow.Author.Needs.{needs}
 use Rattle.logpage.proofs.reader.debug_counter.Statement.{statement}
 use Rattle.logpage.proofs.reader.debug_counter.Tie as tie
 

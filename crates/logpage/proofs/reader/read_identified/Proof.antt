@@ -57,11 +57,11 @@ settings-from-requires c κs = fits (c .before .before .before .before .before .
 debug-from-requires : tie.Need-debug-from-requires
 debug-from-requires c κs = fits (c .before .before .before .before .before .before .before) .1
 
-array-read-t23 : tie.Need-array-read-t23
-array-read-t23 c = search needs
+array-read-timer : tie.Need-array-read-timer
+array-read-timer c = search needs
 
-cast-t24 : tie.Need-cast-t24
-cast-t24 c = omega (arith, fits (c .before .before .before .before .before .before .before .before) .0 2)
+cast-timer : tie.Need-cast-timer
+cast-timer c = omega (arith, fits (c .before .before .before .before .before .before .before .before) .0 2)
 
 shown-requires : tie.Need-shown-requires
 shown-requires c κs = search needs
@@ -135,8 +135,8 @@ read-identified-spec =
     keeps-requires
     settings-from-requires
     debug-from-requires
-    array-read-t23
-    cast-t24
+    array-read-timer
+    cast-timer
     shown-requires
     refused-requires
     returns
