@@ -1,8 +1,11 @@
 -- 02, Ticket 1: the listing of a page's counters.
 use Prim.Native.Nat.{ℕ, zero, suc}
 use mathlib.Core.List.{List, [], _∷_, _++_}
+use mathlib.Core.Option.{Option, none, some}
 use lib.ListN.{length, getD}
-use Rattle.text.specs.Lines.{decimal, spaced}
+use Rattle.logpage.specs.Reader.{fieldsIn, readRefusal}
+use Rattle.logpage.specs.declared.page.LogPage.{LogPage}
+use Rattle.text.specs.Lines.{decimal, spaced, refusedLine}
 use Rattle.text.specs.Stored.{Stored, padded}
 use Rattle.text.specs.declared.listing.Listing.{Listing}
 
@@ -26,3 +29,11 @@ listingOf active static = countsLines active static 12
 -- a text in the room of twelve lines
 unfoldable pub asListing : List ℕ → Listing
 asListing t = record { bytes = padded 768 t; len = length t }
+
+-- the counters that a page's fields show, or the line of its refusal
+abbrev pub listed : Option ℕ → LogPage → List ℕ
+listed none p = listingOf (p .«active_window» .counters) (p .«static_window» .counters)
+listed (some n) p = refusedLine (n ∷ [])
+
+unfoldable pub pageListing : List ℕ → List ℕ
+pageListing page = listed (readRefusal page) (fieldsIn page)

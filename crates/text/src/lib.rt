@@ -8,6 +8,7 @@ pub use lines::no_line;
 pub use lines::refused_record;
 pub use listing::Listing;
 pub use listing::counts_listing;
+pub use listing::page_listing;
 pub use listing::refused_listing;
 pub use pages::Text;
 pub use pages::page_text;

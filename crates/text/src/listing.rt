@@ -4,11 +4,13 @@ ghost use mathlib.Core.List.{[], _∷_};
 ghost use Prim.Native.Nat.{_+_, _≤_};
 ghost use lib.ListN.{length};
 ghost use Rattle.text.specs.Lines.{refusedLine};
-ghost use Rattle.text.specs.Listing.{CountsStored, listingOf, asListing};
+ghost use Rattle.text.specs.Listing.{CountsStored, listingOf, asListing, pageListing};
 ghost use Rattle.text.specs.Stored.{Stored};
 use crate::lines::put_decimal;
 use crate::lines::put_numbers;
 use crate::lines::put_refused;
+use logpage::Answer;
+use logpage::LogPage;
 
 const COUNTERS: usize = 12;
 
@@ -67,4 +69,22 @@ pub fn refused_listing(refusal: u64) -> Listing
     let mut bytes = [0; 768];
     let len = put_refused(&mut bytes, 0, &[refusal]);
     Listing { bytes, len }
+}
+
+// The listing of a page: its counters, or why it is turned away.
+pub fn page_listing(page: &[u8]) -> Listing
+    ensures { λ r. ⌜ r ≡ asListing (pageListing (now (page .entry))) ⌝ }
+    ensures { λ r. ⌜ r .len ≤ length (r .bytes) ⌝ }
+{
+    let read = LogPage::read(page);
+    let answer = read.answer;
+    match answer {
+        Answer::Refused(number) => refused_listing(number as u64),
+        Answer::Done => {
+            let fields = read.reading.page;
+            let active_counts = fields.active_window.counters;
+            let static_counts = fields.static_window.counters;
+            counts_listing(active_counts, static_counts)
+        }
+    }
 }

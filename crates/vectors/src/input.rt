@@ -20,7 +20,7 @@ pub fn file_buffer() -> [u8; LONGEST_FILE]
 }
 
 // Fills a buffer, and says whether the input had so many bytes.
-fn fill(s: &mut [u8]) -> bool {
+pub fn fill(s: &mut [u8]) -> bool {
     io::read_full(0, s) == s.len()
 }
 

@@ -3,10 +3,12 @@
 mod blocks;
 mod compare;
 mod input;
+mod pages;
 mod play;
 mod vector;
 
 use input::Part;
+use vector::Kind;
 use vector::Verdict;
 
 // More turns than any run takes: nothing else says that the input ends.
@@ -40,22 +42,34 @@ fn report(name: &[u8], agreed: usize) {
     io::write_all(1, b"\n");
 }
 
-// Whether a group has settings vectors.
-fn of_settings(name: &[u8]) -> bool {
-    if name.len() < 8 {
+// Whether a name starts with a word.
+fn starts(name: &[u8], word: &[u8]) -> bool {
+    let n = word.len();
+    if name.len() < n {
         false
     } else {
-        compare::holds(&name[0..8], b"settings", 0)
+        compare::holds(&name[0..n], word, 0)
+    }
+}
+
+// What the vectors of a group are of: its name says so.
+fn kind_of(name: &[u8]) -> Kind {
+    if starts(name, b"settings") {
+        Kind::Settings
+    } else if starts(name, b"pages") {
+        Kind::Pages
+    } else {
+        Kind::Events
     }
 }
 
 // The vectors of a group: how many agree.
 fn vectors(name: &[u8], count: usize) -> Part {
-    let settings = of_settings(name);
+    let kind = kind_of(name);
     let mut agreed = 0;
     let mut i = 0;
     while i < count {
-        match vector::next(settings) {
+        match vector::next(kind) {
             Verdict::Agrees => {
                 agreed += 1;
             }

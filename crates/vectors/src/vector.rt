@@ -1,8 +1,9 @@
-// One vector of the file: its call or event file given to the product, and the answers compared.
+// One vector of the file: its call, event file or page given to the product, and the answers compared.
 use crate::blocks::Told;
 use crate::compare;
 use crate::input;
 use crate::input::Part;
+use crate::pages;
 use crate::play;
 use monitor::Answer;
 use monitor::Monitor;
@@ -15,7 +16,14 @@ pub enum Verdict {
     Unread,
 }
 
-fn judged(agrees: bool) -> Verdict {
+// What a vector is of.
+pub enum Kind {
+    Events,
+    Settings,
+    Pages,
+}
+
+pub fn judged(agrees: bool) -> Verdict {
     if agrees {
         Verdict::Agrees
     } else {
@@ -155,7 +163,11 @@ fn settings() -> Verdict {
     }
 }
 
-// The next vector: of settings, or else of events.
-pub fn next(of_settings: bool) -> Verdict {
-    if of_settings { settings() } else { events() }
+// The next vector.
+pub fn next(kind: Kind) -> Verdict {
+    match kind {
+        Kind::Events => events(),
+        Kind::Settings => settings(),
+        Kind::Pages => pages::next(),
+    }
 }

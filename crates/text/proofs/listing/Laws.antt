@@ -1,13 +1,16 @@
 -- Laws of the listing.
 use mathlib.Core.List.{List, [], _∷_}
+use mathlib.Core.Option.{none, some}
 use mathlib.Core.Path.{_≡_, refl}
 use Prim.Native.Nat.{ℕ, _+_, _*_, _≤_}
 use native.Mathlib.Numerals.{add-one}
 use native.Mathlib.Omega.{arith}
 use lib.ListN.{length, set, getD, replicate}
+use Rattle.logpage.specs.Reader.{shown, readRefusal, readingOf}
+use Rattle.logpage.specs.declared.reader.Reading.{Reading}
 use Rattle.text.specs.declared.listing.Listing.{Listing}
-use Rattle.text.specs.Lines.{decimal, spaced}
-use Rattle.text.specs.Listing.{countsLine, countsLines, asListing}
+use Rattle.text.specs.Lines.{decimal, spaced, refusedLine}
+use Rattle.text.specs.Listing.{countsLine, countsLines, listingOf, asListing, pageListing}
 use Rattle.text.specs.Stored.{Stored}
 use Rattle.text.proofs.Storing.{stored-next, stored-within, same-room, in-zeros}
 use Rattle.text.proofs.lines.Laws.{line-ended}
@@ -41,3 +44,17 @@ unfolding asListing
 as-listing t bytes room r le s =
     let size : length bytes ≡ 768 = same-room s in
     (rw (in-zeros 768 t bytes r (stored-within s refl le), s .exact), omega (arith, s .within))
+
+-- a page that is turned away
+pub page-refused : (page : List ℕ) (n : ℕ) → readRefusal page ≡ some n → pageListing page ≡ refusedLine (n ∷ [])
+unfolding pageListing
+page-refused page n e = rw e
+
+-- a page that is read
+pub page-read :
+    (page : List ℕ) (r : Reading) →
+    readRefusal page ≡ none →
+    r ≡ readingOf page →
+    pageListing page ≡ listingOf (r .page .«active_window» .counters) (r .page .«static_window» .counters)
+unfolding pageListing readingOf shown
+page-read page r e reading = rw (reading, e)

@@ -7,13 +7,13 @@ use Rattle.vectors.proofs.vectors.Statement.{statement}
 use Rattle.vectors.proofs.vectors.Tie as tie
 
 abbrev Inv-loop : tie.InvT-loop
-Inv-loop name count settings agreed₀ i₀ t6 t7 agreed i = agreed ≤ i
+Inv-loop name count kind agreed₀ i₀ t6 t7 agreed i = agreed ≤ i
 
 abbrev μ-loop : tie.MeasureT-loop
-μ-loop name count settings agreed₀ i₀ t6 t7 agreed i = count - i
+μ-loop name count kind agreed₀ i₀ t6 t7 agreed i = count - i
 
-of-settings-requires : tie.Need-of-settings-requires Inv-loop μ-loop
-of-settings-requires c κs = search needs
+kind-of-requires : tie.Need-kind-of-requires Inv-loop μ-loop
+kind-of-requires c κs = search needs
 
 loop-holds : tie.Need-loop-holds Inv-loop μ-loop
 loop-holds c = search needs
@@ -66,7 +66,7 @@ vectors-spec =
     (tie.spec
     Inv-loop
     μ-loop
-    of-settings-requires
+    kind-of-requires
     loop-holds
     next-requires
     enum-told
