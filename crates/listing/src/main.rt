@@ -1,9 +1,21 @@
 // listing < PAGE: prints the counters of a page, or why it is turned away (document 02, Ticket 1). It reads, calls and
 // writes; what it prints is made by `text`.
-mod input;
-
+ghost use mathlib.Core.Path.{_≡_};
+ghost use lib.ListN.{length};
+ghost use Rattle.text.specs.Claims.{enough};
 use libc::STDERR_FILENO;
+use libc::STDIN_FILENO;
 use libc::STDOUT_FILENO;
+
+// No more is needed to list an input, however long it is: `text` claims it of so many bytes (`FirstBytesSuffice`).
+const ROOM: usize = 513;
+
+// A buffer for the input.
+fn buffer() -> [u8; ROOM]
+    ensures { λ r. ⌜ enough ≡ length r ⌝ }
+{
+    [0; ROOM]
+}
 
 // Prints the listing, or says on standard error that it could not.
 fn print(page: &[u8]) {
@@ -17,8 +29,8 @@ fn print(page: &[u8]) {
 
 // Reads a page and prints its listing.
 fn run() {
-    let mut page = input::buffer();
-    let filled = input::fill(&mut page);
+    let mut page = buffer();
+    let filled = streams::fill(STDIN_FILENO, &mut page);
     let n = filled.n;
     if filled.failed {
         os::fail(b"listing: cannot read");

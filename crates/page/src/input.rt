@@ -1,14 +1,6 @@
 // The input: a file that is named, or standard input.
-ghost use Prim.Native.Nat.{_≤_};
-ghost use lib.ListN.{length};
 use libc::STDERR_FILENO;
 use libc::STDIN_FILENO;
-
-// What was read into a buffer: so many bytes, fewer than it holds at the input's end alone, or until a read failed.
-pub struct Filled {
-    pub n: usize,
-    pub failed: bool,
-}
 
 fn usage() {
     io::write_all(STDERR_FILENO, b"usage: page [FILE]\n");
@@ -37,36 +29,4 @@ pub fn open() -> i32 {
         usage();
         -1
     }
-}
-
-// One read.
-fn read_once(fd: i32, s: &mut [u8]) -> Filled
-    ensures { λ r. ⌜ r .n ≤ length (now (s .entry)) ⌝ }
-{
-    let got = libc::read(fd, s);
-    let n = io::count(got, s);
-    if got < 0 {
-        Filled { n, failed: true }
-    } else {
-        Filled { n, failed: false }
-    }
-}
-
-// Reads until the buffer is full or the input ends.
-pub fn fill(fd: i32, s: &mut [u8]) -> Filled
-    ensures { λ r. ⌜ r .n ≤ length (now (s .entry)) ⌝ }
-{
-    let mut n = 0;
-    while n < s.len() {
-        let read = read_once(fd, &mut s[n..]);
-        let more = read.n;
-        if more == 0 {
-            return Filled {
-                n,
-                failed: read.failed,
-            };
-        }
-        n += more;
-    }
-    Filled { n, failed: false }
 }

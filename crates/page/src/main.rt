@@ -27,7 +27,7 @@ fn advance(p: Progress, fd: i32, block: &mut [u8], lines: &mut [u8]) -> Turn
     ensures next { λ r. ⌜ (r .more ≡ true → r .progress .next ≡ p .next + 4096) ⌝ }
     ensures read { λ r. ⌜ (r .more ≡ true → Reads p (now (block .exit)) (r .progress)) ⌝ }
 {
-    let filled = input::fill(fd, block);
+    let filled = streams::fill(fd, block);
     let n = filled.n;
     if filled.failed {
         os::fail(b"page: cannot read");

@@ -3,8 +3,8 @@ use mathlib.Core.Path.{_≡_}
 use Prim.Native.Nat.{_≤_, _-_}
 use borrow.Author.Needs.{needs}
 use lib.ListN.{length}
-use Rattle.page.proofs.input.fill.Statement.{statement}
-use Rattle.page.proofs.input.fill.Tie as tie
+use Rattle.streams.proofs.fill.Statement.{statement}
+use Rattle.streams.proofs.fill.Tie as tie
 
 abbrev Inv-loop : tie.InvT-loop
 Inv-loop fd s₀ n₀ s n = (length s ≡ length s₀) × (n ≤ length s)
