@@ -1,4 +1,4 @@
--- Fields in bytes, both ways: bytes are read as the values that were stored, and what is read is stored as the same bytes.
+-- Fields in bytes, both ways: what is stored is read, and what is read is stored again as the same bytes.
 use mathlib.Core.Bool.{Bool, true, false, _&&_, false≢true}
 use mathlib.Core.List.{List, [], _∷_, _++_, append-assoc}
 use mathlib.Core.Path.{_≡_, refl, sym, _∙_, ap}
@@ -100,7 +100,8 @@ read-stored (_▸_ {w} {v} {widths} {values} small more) k before at h =
     length-append before (lowFirst w v) ∙ omega (arith, length-low w v)
     in
     let one : number (part at (min w 8) (before ++ (lowFirst w v ++ rest))) ≡ v =
-    rw (whole, drop-at before (lowFirst w v ++ rest) at h, take-at (lowFirst w v) rest w (length-low w v)) (number-low w v small)
+    rw (whole, drop-at before (lowFirst w v ++ rest) at h, take-at (lowFirst w v) rest w (length-low w v))
+    (number-low w v small)
     in
     let later : valuesAt (at + w) widths (before ++ (lowFirst w v ++ rest)) ≡ values =
     rw append-assoc at

@@ -96,7 +96,10 @@ run-part l part run at end k e h m p =
     rw e (part-run l part run at k h m (p ∙ whole))
 
 -- as many values as widths
-pub length-fields : (widths values : List ℕ) → length widths ≡ length values → length (fields widths values) ≡ total widths
+pub length-fields :
+    (widths values : List ℕ) →
+    length widths ≡ length values →
+    length (fields widths values) ≡ total widths
 unfolding fields total
 length-fields [] [] h = refl
 length-fields [] (v ∷ values) h = refl

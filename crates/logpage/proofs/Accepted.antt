@@ -22,8 +22,8 @@ use Rattle.logpage.specs.Claims.{WrittenAgain, SourceOfCounter}
 use Rattle.logpage.specs.Fields.{unset, from}
 use Rattle.logpage.specs.Page.{headWidths, headValues, headBytes, windowsBytes, tailWidths, tailValues, tailBytes}
 use Rattle.logpage.specs.Page.{identityWidths, identityValues, pageBytes}
-use Rattle.logpage.specs.Reader.{headIn, tailIn, identityIn, settingsFrom, debugFrom, fieldsIn, headFits, tailFits}
-use Rattle.logpage.specs.Reader.{debugHeld, debugCounter, debugFits, pageKeeps, pageFits, identified, readRefusal}
+use Rattle.logpage.specs.Reader.{headIn, tailIn, identityIn, settingsFrom, debugFrom, fieldsIn, headFits}
+use Rattle.logpage.specs.Reader.{tailFits, debugHeld, debugCounter, debugFits, pageKeeps, pageFits, identified, readRefusal}
 use Rattle.logpage.specs.declared.Window.{Window}
 use Rattle.logpage.proofs.OneBit.{source-bit}
 use Rattle.logpage.proofs.Lists.{no-row, passed, flag-again, bits-again}
@@ -53,7 +53,12 @@ module _ (block : List ℕ) (w : Window) where
   unfolding blockKeeps
   block-rule = passed block-rules
 
-block-again : (block : List ℕ) → Bytes block → length block ≡ 186 → blockFits block ≡ true → blockBytes (windowIn block) ≡ block
+block-again :
+    (block : List ℕ) →
+    Bytes block →
+    length block ≡ 186 →
+    blockFits block ≡ true →
+    blockBytes (windowIn block) ≡ block
 unfolding blockBytes windowIn valuesAt from buckets downward narrow total
 block-again block b n fit =
     let r = block-rule block (windowIn block) fit in
@@ -62,7 +67,9 @@ block-again block b n fit =
     let same : blockValues (windowIn block) ≡ valuesAt 0 blockWidths block =
     rw (m, z 0 4 (r 0), z 16 4 (r 1), z 32 4 (r 2), z 48 4 (r 3))
     in
-    ap (fields blockWidths) same ∙ bytes-back blockWidths block 0 refl b (omega arith) ∙ take-all 186 block (omega arith)
+    ap (fields blockWidths) same
+    ∙ bytes-back blockWidths block 0 refl b (omega arith)
+    ∙ take-all 186 block (omega arith)
 
 -- a part in two
 split-part : (l : List ℕ) (at n m : ℕ) → part at (n + m) l ≡ part at n l ++ part (at + n) m l
@@ -114,7 +121,9 @@ module _ (page : List ℕ) (ok : readRefusal page ≡ none) where
       let found : ℕ → ℕ = λ k. getD (identityIn page) k 0 in
       let same : ℕ → Bool = λ k. eqb (found k) (getD identityValues k 0) in
       let r = passed (same 0 ∷ same 1 ∷ same 2 ∷ []) (not-false (identified page) (rows .1)) in
-      let e : (k : ℕ) → same k ≡ true → found k ≡ getD identityValues k 0 = λ k. eqb-true (found k) (getD identityValues k 0) in
+      let e : (k : ℕ) → same k ≡ true → found k ≡ getD identityValues k 0 =
+      λ k. eqb-true (found k) (getD identityValues k 0)
+      in
       rw (e 0 (r 0), e 1 (r 1), e 2 (r 2))
 
   head-same : headValues (settingsFrom (headIn page) (tailIn page)) (getD (headIn page) 2 0) ≡ headIn page
@@ -140,7 +149,9 @@ module _ (page : List ℕ) (ok : readRefusal page ≡ none) where
         values ≡ valuesAt 0 widths (part at n page) →
         fields widths values ≡ part at n page
     part-again widths values at n h k m e =
-        let l : length (part at n page) ≡ n = length-take-le n (drop at page) (omega (arith, length-drop at page, whole)) in
+        let l : length (part at n page) ≡ n =
+        length-take-le n (drop at page) (omega (arith, length-drop at page, whole))
+        in
         rw e
         (bytes-back widths (part at n page) 0 k (bytes-take n (drop at page) (bytes-drop at page b)) (omega arith)
         ∙ rw m (take-all n (part at n page) (omega arith)))
@@ -148,7 +159,11 @@ module _ (page : List ℕ) (ok : readRefusal page ≡ none) where
     zeros-again : (at n : ℕ) → at + n ≤ 512 → clear at n page ≡ true → zeros n ≡ part at n page
     zeros-again at n h e = sym (clear-part page at n (omega (arith, whole)) e)
 
-    window-again : (at : ℕ) → at + 186 ≤ 512 → blockFits (part at 186 page) ≡ true → blockBytes (windowIn (part at 186 page)) ≡ part at 186 page
+    window-again :
+        (at : ℕ) →
+        at + 186 ≤ 512 →
+        blockFits (part at 186 page) ≡ true →
+        blockBytes (windowIn (part at 186 page)) ≡ part at 186 page
     window-again at h =
         block-again (part at 186 page) (bytes-take 186 (drop at page) (bytes-drop at page b))
         (length-take-le 186 (drop at page) (omega (arith, length-drop at page, whole)))
@@ -169,7 +184,8 @@ module _ (page : List ℕ) (ok : readRefusal page ≡ none) where
       where
         parts :
             page ≡
-            part 0 13 page ++ part 13 19 page ++ (part 32 186 page ++ part 218 22 page ++ part 240 186 page ++ part 426 22 page)
+            part 0 13 page ++ part 13 19 page
+            ++ (part 32 186 page ++ part 218 22 page ++ part 240 186 page ++ part 426 22 page)
             ++ (part 448 17 page ++ part 465 29 page ++ part 494 18 page)
         parts =
             sym (take-all 512 page (omega (arith, whole)))

@@ -14,7 +14,9 @@ use Rattle.logpage.specs.Block.{flag, bits, flags}
 use Rattle.logpage.specs.Fields.{from, each}
 
 -- a list is the list of its entries
-from-later : {A : Type 0} (x d : A) (l : List A) (i n : ℕ) → from (suc i) n (λ k. getD (x ∷ l) k d) ≡ from i n (λ k. getD l k d)
+from-later :
+    {A : Type 0} (x d : A) (l : List A) (i n : ℕ) →
+    from (suc i) n (λ k. getD (x ∷ l) k d) ≡ from i n (λ k. getD l k d)
 unfolding from
 from-later x d l i zero = refl
 from-later x d l i (suc n) = ap (λ t. getD l i d ∷ t) (from-later x d l (suc i) n)

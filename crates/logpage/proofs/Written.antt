@@ -108,7 +108,8 @@ module _ (p : LogPage) where
     head-fit =
         let s = x .settings in
         let t = s .thresholds in
-        flag-fits (p .settings .enabled) ▸ lit< tt ▸ x .timer ▸ s .threshold ▸ t 0 ▸ t 1 ▸ t 2 ▸ t 3 ▸ s .mode ▸ s .minimum ▸ none
+        flag-fits (p .settings .enabled) ▸ lit< tt ▸ x .timer ▸ s .threshold ▸ t 0 ▸ t 1 ▸ t 2 ▸ t 3 ▸ s .mode ▸
+        s .minimum ▸ none
 
     tail-fit : Fit tailWidths (tailValues (p .settings .trigger) (p .debug))
     tail-fit =
@@ -178,7 +179,8 @@ module _ (p : LogPage) (x : Fits p) (fit : fieldsFit p ≡ true) where
   unfolding blockKeeps buckets downward
   block-kept w y f =
       let m : ofTwelve (bits (w .units)) ≡ true = lt-ltb _ _ (bits-fit (w .units) 0 (omega (arith, y .twelve-units))) in
-      rw (buckets-clear w .0, buckets-clear w .1, buckets-clear w .2, buckets-clear w .3, block-values w y, m, window-back w y, f)
+      let z = buckets-clear w in
+      rw (z .0, z .1, z .2, z .3, block-values w y, m, window-back w y, f)
 
   head-kept : headFits (headIn (pageBytes p)) ≡ true
   head-kept = rw (head-back p x, lt-ltb _ _ (flag-below (p .settings .enabled)), kept 0)

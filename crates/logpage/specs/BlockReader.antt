@@ -41,9 +41,10 @@ counterFits counter stamp latency unit =
 -- the rules of a window's own fields
 unfoldable pub windowFits : Window → Bool
 windowFits w =
-    all
-    (each
-    (λ n. counterFits (getD (w .counters) n 0) (getD (w .stamps) n 0) (getD (w .latencies) n 0) (getD (w .units) n false)))
+    let fits : ℕ → Bool =
+    λ n. counterFits (getD (w .counters) n 0) (getD (w .stamps) n 0) (getD (w .latencies) n 0) (getD (w .units) n false)
+    in
+    all (each fits)
 
 -- the rules of a block of 186 bytes whose window is w
 unfoldable pub blockKeeps : List ℕ → Window → Bool

@@ -1,5 +1,5 @@
--- 01, The page: log page C3h, 512 bytes. What is not a field here is zero. Fields and widths are said here once, for the
--- writer and for the reader.
+-- 01, The page: log page C3h, 512 bytes. What is not a field here is zero. Fields and widths are said here once, for
+-- the writer and for the reader.
 use mathlib.Core.List.{List, [], _∷_, _++_}
 use Prim.Native.Nat.{ℕ, _/_, _%_, _^_}
 use lib.ListN.{getD}

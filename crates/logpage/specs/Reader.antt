@@ -142,12 +142,12 @@ unfoldable pub readRefusal : List ℕ → Option ℕ
 readRefusal page = row 13 (not (eqb (length page) 512)) (row 14 (not (identified page)) (layoutRefusal page))
 
 -- what is handed back: what the page shows, or what a new monitor's page shows
-abbrev pub unlessTurnedAway : Option ℕ → Reading → Reading
-unlessTurnedAway none reading = reading
-unlessTurnedAway (some n) reading = noReading
+abbrev pub readingAfter : Option ℕ → List ℕ → Reading
+readingAfter none page = shown (fieldsIn page)
+readingAfter (some n) page = noReading
 
 unfoldable pub readingOf : List ℕ → Reading
-readingOf page = unlessTurnedAway (readRefusal page) (shown (fieldsIn page))
+readingOf page = readingAfter (readRefusal page) page
 
 -- fields that keep the rules
 unfoldable pub fieldsFit : LogPage → Bool

@@ -4,8 +4,8 @@ ghost use lib.ListN.{length};
 ghost use Rattle.logpage.specs.Answers.{refusalIn};
 ghost use Rattle.logpage.specs.Page.{headWidths, tailWidths};
 ghost use Rattle.logpage.specs.Reader.{headIn, tailIn, identityIn, identified, Bounded, settingsFrom, debugFrom};
-ghost use Rattle.logpage.specs.Reader.{debugCounter, fieldsIn, shown, noReading, headFits, tailFits, debugFits};
-ghost use Rattle.logpage.specs.Reader.{pageKeeps, layoutRefusal, unlessTurnedAway, readRefusal, readingOf};
+ghost use Rattle.logpage.specs.Reader.{debugCounter, shown, noReading, headFits, tailFits, debugFits, pageKeeps};
+ghost use Rattle.logpage.specs.Reader.{layoutRefusal, readingAfter, readRefusal, readingOf};
 use crate::Answer;
 use crate::DebugLog;
 use crate::LogPage;
@@ -206,7 +206,7 @@ fn refused(number: u8) -> PageRead
 fn read_identified(page: &[u8]) -> PageRead
     requires { ⌜ length (now page) ≡ 512 ⌝ }
     ensures answer { λ r. ⌜ refusalIn (r .answer) ≡ layoutRefusal (now (page .entry)) ⌝ }
-    ensures reading { λ r. ⌜ r .reading ≡ unlessTurnedAway (layoutRefusal (now (page .entry))) (shown (fieldsIn (now (page .entry)))) ⌝ }
+    ensures reading { λ r. ⌜ r .reading ≡ readingAfter (layoutRefusal (now (page .entry))) (now (page .entry)) ⌝ }
 {
     let head = head_in(page);
     let tail = tail_in(page);

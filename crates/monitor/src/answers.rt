@@ -1,5 +1,5 @@
-// What calls answer that have more to tell than `logpage::Answer`. specs/Answers.antt gives the number and the values of
-// document 01 for each case.
+// What calls answer that have more to tell than `logpage::Answer`. specs/Answers.antt gives the number and the values
+// of document 01 for each case.
 
 // The answer to a completion, which is never turned away.
 pub enum CompletionAnswer {

@@ -64,7 +64,10 @@ field-loaded s at w place end p q = by (decLt at (length s))
         (take-twice 8 (min w (length rest)) rest ∙ take-within (min 8 (min w (length rest))) rest ∙
         rw (mins w (length rest)) (sym (take-within (min w 8) rest)))
 
-total-take : (widths : List ℕ) (i : ℕ) → i < length widths → total (take (suc i) widths) ≡ total (take i widths) + getD widths i 0
+total-take :
+    (widths : List ℕ) (i : ℕ) →
+    i < length widths →
+    total (take (suc i) widths) ≡ total (take i widths) + getD widths i 0
 unfolding total
 total-take [] i h = absurd (omega arith)
 total-take (w ∷ widths) zero h = omega arith

@@ -74,7 +74,11 @@ module _ (test : ℕ → Bool) where
       let p : 12 - n ≡ suc (12 - suc n) = omega arith in
       rw (add-one, e) (rw p at k)
 
-  pub tests-end : (so-far answer : Bool) (n : ℕ) → 12 ≤ n → passes so-far (from n (12 - n) test) ≡ answer → so-far ≡ answer
+  pub tests-end :
+      (so-far answer : Bool) (n : ℕ) →
+      12 ≤ n →
+      passes so-far (from n (12 - n) test) ≡ answer →
+      so-far ≡ answer
   unfolding from
   tests-end so-far answer n h k =
       let p : 12 - n ≡ 0 = omega arith in

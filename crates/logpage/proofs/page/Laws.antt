@@ -15,8 +15,8 @@ use Rattle.logpage.specs.declared.DebugLog.{DebugLog}
 use Rattle.logpage.specs.declared.Settings.{Settings}
 use Rattle.logpage.specs.declared.Window.{Window}
 use Rattle.logpage.specs.declared.page.LogPage.{LogPage}
-use Rattle.logpage.proofs.Lengths.{length-block, length-head, length-head-fields, length-windows, length-tail-fields}
-use Rattle.logpage.proofs.Lengths.{length-identity, length-page}
+use Rattle.logpage.proofs.Lengths.{length-block, length-head, length-head-fields, length-windows}
+use Rattle.logpage.proofs.Lengths.{length-tail-fields, length-identity, length-page}
 
 -- after a run of stores, zeros in the part behind it
 zeros-more :
@@ -102,8 +102,9 @@ tail-run trigger d page part₁ part₂ part₃ h e₁ e₂ e₃ =
     let k₁ : length s₁ ≡ 512 = ap length r₁ ∙ length-sets page 448 first ∙ h in
     let r₂ = zeros-more page s₁ part₂ first 448 465 29 (omega arith) (omega arith) r₁ e₂ in
     let k₂ : length s₂ ≡ 512 = ap length r₂ ∙ length-sets page 448 to-494 ∙ h in
-    let r₃ = run-part s₂ part₃ (fields identityWidths identityValues) 494 512 18 refl (omega arith) length-identity e₃ in
-    run-more page s₂ _ to-494 (fields identityWidths identityValues) 448 494 (omega arith) r₂ r₃
+    let last : List ℕ = fields identityWidths identityValues in
+    let r₃ = run-part s₂ part₃ last 494 512 18 refl (omega arith) length-identity e₃ in
+    run-more page s₂ _ to-494 last 448 494 (omega arith) r₂ r₃
 
 -- head, windows and tail
 pub page-run :

@@ -18,9 +18,9 @@ use Rattle.logpage.proofs.Lists.{all-pass}
 use Rattle.logpage.proofs.OneBit.{ones-power}
 use Rattle.logpage.proofs.Written.{read-as-written}
 use Rattle.monitor.specs.Claims.{PageReadBack}
-use Rattle.monitor.specs.Facts.{inForce, Counted, countOf, orLoad, loadsAfter, lastLoad, stampOf, latencyOf, unitsOf}
-use Rattle.monitor.specs.Facts.{windowFrom, active, static, filter, triggered, discardIn, countedAt, earliest, logOf}
-use Rattle.monitor.specs.Facts.{debugAt, factsOf}
+use Rattle.monitor.specs.Facts.{inForce, Counted, countOf, orLoad, loadsAfter, lastLoad, stampOf, latencyOf}
+use Rattle.monitor.specs.Facts.{unitsOf, windowFrom, active, static, filter, triggered, discardIn, countedAt}
+use Rattle.monitor.specs.Facts.{earliest, logOf, debugAt, factsOf}
 use Rattle.monitor.specs.History.{Past, settingsIn, found, latest, since, pastOf}
 use Rattle.monitor.specs.Refusals.{eitherAbove}
 use Rattle.monitor.specs.Settings.{decoded}

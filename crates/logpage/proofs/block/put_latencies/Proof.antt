@@ -13,7 +13,8 @@ use Rattle.logpage.proofs.block.put_latencies.Tie as tie
 abbrev Inv-loop : tie.InvT-loop
 Inv-loop block₀ latencies n₀ block n =
     (n ≤ 12) × (length block ≡ length block₀) ×
-    (sets block (160 + 2 * (12 - n)) (column 2 (downward latencies n)) ≡ sets block₀ 160 (column 2 (downward latencies 12)))
+    (sets block (160 + 2 * (12 - n)) (column 2 (downward latencies n)) ≡
+    sets block₀ 160 (column 2 (downward latencies 12)))
 
 abbrev μ-loop : tie.MeasureT-loop
 μ-loop block₀ latencies n₀ block n = n

@@ -72,11 +72,15 @@ window-fits-requires c κs = search needs
 
 returns : tie.Need-returns
 returns c =
-    let start = c .before .before .before .before .before .before .before .before .before .before .before .before in
+    let fourth = c .before .before .before in
+    let third = fourth .before .before in
+    let second = third .before .before in
+    let first = second .before .before in
+    let start = first .before .before .before in
     let block = start .args .block .now in
-    block-kept block (start .args .w) _ _ _ _ _ _ (c .before .before .before .before .before .before .before .before .before .any-set .ensures) (c .before .before .before .before .before .before .before .any-set2 .ensures)
-    (c .before .before .before .before .before .any-set3 .ensures)
-    (c .before .before .before .any-set4 .ensures)
+    block-kept block (start .args .w) _ _ _ _ _ _ (first .any-set .ensures) (second .any-set2 .ensures)
+    (third .any-set3 .ensures)
+    (fourth .any-set4 .ensures)
     (loaded block 184 184 2 _ refl (omega arith) (c .before .load .ensures))
     (c .window-fits .ensures)
 

@@ -36,10 +36,15 @@ of-requires c κs = search needs
 
 returns : tie.Need-returns
 returns c =
-    let block = c .before .before .before .before .before .before .before .before .args .block .now in
-    c .of .ensures ∙ block-read block _ _ _ _ _ (c .before .before .before .before .before .before .read-counters .ensures) (c .before .before .before .before .before .read-stamps .ensures)
-    (c .before .before .before .before .read-latencies .ensures)
-    (loaded block 184 184 2 _ refl (omega arith) (c .before .before .load .ensures))
+    let load = c .before .before in
+    let latencies = load .before .before in
+    let stamps = latencies .before in
+    let counters = stamps .before in
+    let block = counters .before .before .args .block .now in
+    c .of .ensures
+    ∙ block-read block _ _ _ _ _ (counters .read-counters .ensures) (stamps .read-stamps .ensures)
+    (latencies .read-latencies .ensures)
+    (loaded block 184 184 2 _ refl (omega arith) (load .load .ensures))
     (c .before .units-in .ensures)
 
 pub read-block-spec : {M : Type 1} → statement M

@@ -21,7 +21,9 @@ abbrev μ-loop : tie.MeasureT-loop
 μ-loop block counters₀ n₀ counters n = 12 - n
 
 loop-holds : tie.Need-loop-holds Inv-loop μ-loop
-loop-holds c = (search needs, fill-start (λ k. number (part (counterPlace k) 4 (c .before .args .block .now))) _ (search needs))
+loop-holds c =
+    let block = c .before .args .block .now in
+    (search needs, fill-start (λ k. number (part (counterPlace k) 4 block)) _ (search needs))
 
 counter-place-requires : tie.Need-counter-place-requires Inv-loop μ-loop
 counter-place-requires c κs = search needs
@@ -77,7 +79,8 @@ loop-again c =
 returns : tie.Need-returns Inv-loop μ-loop
 returns c =
     let block = c .before .before .before .args .block .now in
-    fill-end (λ k. number (part (counterPlace k) 4 block)) _ _ (c .before .loop .n) (search needs) (c .before .loop .inv .1)
+    let l = c .before .loop in
+    fill-end (λ k. number (part (counterPlace k) 4 block)) _ _ (l .n) (search needs) (l .inv .1)
 
 pub read-counters-spec : {M : Type 1} → statement M
 read-counters-spec =

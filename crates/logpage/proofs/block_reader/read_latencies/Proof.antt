@@ -22,7 +22,9 @@ abbrev μ-loop : tie.MeasureT-loop
 μ-loop block places latencies₀ n₀ latencies n = 12 - n
 
 loop-holds : tie.Need-loop-holds Inv-loop μ-loop
-loop-holds c = (search needs, fill-start (λ k. number (part (latencyPlace k) 2 (c .before .args .block .now))) _ (search needs))
+loop-holds c =
+    let block = c .before .args .block .now in
+    (search needs, fill-start (λ k. number (part (latencyPlace k) 2 block)) _ (search needs))
 
 mul-at : tie.Need-mul-at Inv-loop μ-loop
 mul-at c = search needs
@@ -89,7 +91,8 @@ loop-again c =
 returns : tie.Need-returns Inv-loop μ-loop
 returns c =
     let block = c .before .before .before .args .block .now in
-    fill-end (λ k. number (part (latencyPlace k) 2 block)) _ _ (c .before .loop .n) (search needs) (c .before .loop .inv .1)
+    let l = c .before .loop in
+    fill-end (λ k. number (part (latencyPlace k) 2 block)) _ _ (l .n) (search needs) (l .inv .1)
 
 pub read-latencies-spec : {M : Type 1} → statement M
 read-latencies-spec =

@@ -22,7 +22,9 @@ abbrev μ-loop : tie.MeasureT-loop
 μ-loop block places stamps₀ n₀ stamps n = 12 - n
 
 loop-holds : tie.Need-loop-holds Inv-loop μ-loop
-loop-holds c = (search needs, fill-start (λ k. number (part (stampPlace k) 8 (c .before .args .block .now))) _ (search needs))
+loop-holds c =
+    let block = c .before .args .block .now in
+    (search needs, fill-start (λ k. number (part (stampPlace k) 8 block)) _ (search needs))
 
 mul-at : tie.Need-mul-at Inv-loop μ-loop
 mul-at c = search needs
@@ -80,7 +82,8 @@ loop-again c =
 returns : tie.Need-returns Inv-loop μ-loop
 returns c =
     let block = c .before .before .before .args .block .now in
-    fill-end (λ k. number (part (stampPlace k) 8 block)) _ _ (c .before .loop .n) (search needs) (c .before .loop .inv .1)
+    let l = c .before .loop in
+    fill-end (λ k. number (part (stampPlace k) 8 block)) _ _ (l .n) (search needs) (l .inv .1)
 
 pub read-stamps-spec : {M : Type 1} → statement M
 read-stamps-spec =

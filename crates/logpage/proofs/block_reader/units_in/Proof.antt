@@ -28,7 +28,9 @@ loop-less : tie.Need-loop-less Inv-loop μ-loop
 loop-less c = search needs
 
 loop-again : tie.Need-loop-again Inv-loop μ-loop
-loop-again c = (search needs, flags-more _ _ (c .before .loop .n) (c .before .loop .rest) (search needs) (c .before .loop .inv .1))
+loop-again c =
+    let l = c .before .loop in
+    (search needs, flags-more _ _ (l .n) (l .rest) (search needs) (l .inv .1))
 
 returns : tie.Need-returns Inv-loop μ-loop
 returns c = flags-end _ _ (c .before .loop .n) (c .before .loop .rest) (search needs) (c .before .loop .inv .1)

@@ -59,16 +59,18 @@ loop-less : tie.Need-loop-less Inv-loop μ-loop
 loop-less c = search needs
 
 loop-again : tie.Need-loop-again Inv-loop μ-loop
-loop-again c = (
-  search needs,
-  tests-more (tested (c .before .before .before .before .before .before .before .args .w)) _ _ (c .before .before .loop .n) _
-      (search needs)
-      (c .counter-fits .ensures)
-      (c .before .before .loop .inv .1),
-)
+loop-again c =
+    let at-loop = c .before .before in
+    let w = at-loop .before .before .before .before .before .args .w in (
+      search needs,
+      tests-more (tested w) _ _ (at-loop .loop .n) _ (search needs) (c .counter-fits .ensures) (at-loop .loop .inv .1),
+    )
 
 returns : tie.Need-returns Inv-loop μ-loop
-returns c = tests-end (tested (c .before .before .before .before .before .before .args .w)) _ _ (c .before .loop .n) (search needs) (c .before .loop .inv .1)
+returns c =
+    let at-loop = c .before in
+    let w = at-loop .before .before .before .before .before .args .w in
+    tests-end (tested w) _ _ (at-loop .loop .n) (search needs) (at-loop .loop .inv .1)
 
 pub window-fits-spec : {M : Type 1} → statement M
 window-fits-spec =

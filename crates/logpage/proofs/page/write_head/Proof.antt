@@ -75,9 +75,10 @@ same-length c = search needs
 
 returns : tie.Need-returns
 returns c =
-    let start = c .before .before .before .before .before .before .before .before .before .before .before .before .before .before .before .before in
+    let stored = c .before .before .before .before .before .before in
+    let start = stored .before .before .before .before .before .before .before .before .before .before in
     head-run (start .args .settings) (start .args .timer) (start .args .page .now) _ _ (start .pre)
-    (c .before .before .before .before .before .before .put-fields .ensures)
+    (stored .put-fields .ensures)
     (c .before .before .put .ensures)
 
 pub write-head-spec : {M : Type 1} → statement M

@@ -11,11 +11,15 @@ cast-result c = search needs
 
 returns : tie.Need-returns
 unfolding debugFits
-returns c = rw (eq-eqb (c .before .before .before .before .before .args .d .stamp) unset (c .before .before .before .if1 .taken))
+returns c =
+    let tested = c .before .before .before in
+    rw (eq-eqb (tested .before .before .args .d .stamp) unset (tested .if1 .taken))
 
 returns-2 : tie.Need-returns-2
 unfolding debugFits
-returns-2 c = rw (ne-eqb (c .before .before .before .before .before .args .d .stamp) unset (c .before .before .before .if1 .left))
+returns-2 c =
+    let tested = c .before .before .before in
+    rw (ne-eqb (tested .before .before .args .d .stamp) unset (tested .if1 .left))
 
 pub debug-fits-spec : {M : Type 1} → statement M
 debug-fits-spec = tie.close (tie.spec cast-result returns returns-2)

@@ -84,7 +84,13 @@ any-set-requires-4 c κs = search needs
 
 returns : tie.Need-returns
 returns c =
-    let start = c .before .before .before .before .before .before .before .before .before .before .before .before .before .before .before in
+    let third = c .before .before .before in
+    let static = third .before .before in
+    let second = static .before .before in
+    let active = second .before .before in
+    let first = active .before .before in
+    let head = first .before .before in
+    let start = head .before .before in
     page-kept (start .args .page .now) (start .args .head) (start .args .tail) (start .args .active-window)
     (start .args .static-window)
     _
@@ -95,12 +101,12 @@ returns c =
     _
     _
     _
-    (c .before .before .before .before .before .before .before .before .before .before .before .before .before .head-fits .ensures)
-    (c .before .before .before .before .before .before .before .before .before .before .before .any-set .ensures)
-    (c .before .before .before .before .before .before .before .before .before .keeps .ensures)
-    (c .before .before .before .before .before .before .before .any-set2 .ensures)
-    (c .before .before .before .before .before .keeps2 .ensures)
-    (c .before .before .before .any-set3 .ensures)
+    (head .head-fits .ensures)
+    (first .any-set .ensures)
+    (active .keeps .ensures)
+    (second .any-set2 .ensures)
+    (static .keeps2 .ensures)
+    (third .any-set3 .ensures)
     (c .before .before .tail-fits .ensures)
     (c .any-set4 .ensures)
 

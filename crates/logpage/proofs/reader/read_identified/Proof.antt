@@ -16,7 +16,9 @@ tail-in-requires : tie.Need-tail-in-requires
 tail-in-requires c κs = search needs
 
 -- the values that were read have no more bytes than their fields
-fits : (c : tie.After-tail-in) → Bounded headWidths (c .before .head-in .result) × Bounded tailWidths (c .tail-in .result)
+fits :
+    (c : tie.After-tail-in) →
+    Bounded headWidths (c .before .head-in .result) × Bounded tailWidths (c .tail-in .result)
 fits c =
     let page = c .before .before .before .args .page .now in
     let bytes = c .before .before .shared-slice-known .given in (

@@ -22,15 +22,19 @@ refused-requires-2 c κs = search needs
 returns : tie.Need-returns
 unfolding readingOf
 returns c =
-    let page = c .before .before .before .before .before .args .page .now in
-    let row = right-identity page (c .before .before .before .if1 .taken) (sym (c .before .before .identified .ensures) ∙ c .before .if2 .taken) in
+    let tested = c .before .before in
+    let whole = tested .before in
+    let page = whole .before .before .args .page .now in
+    let row = right-identity page (whole .if1 .taken) (sym (tested .identified .ensures) ∙ c .before .if2 .taken) in
     (c .read-identified .ensures .0 ∙ sym row, c .read-identified .ensures .1 ∙ rw row)
 
 returns-2 : tie.Need-returns-2
 unfolding readingOf
 returns-2 c =
-    let page = c .before .before .before .before .before .args .page .now in
-    let row = wrong-identity page (c .before .before .before .if1 .taken) (sym (c .before .before .identified .ensures) ∙ c .before .if2 .left) in
+    let tested = c .before .before in
+    let whole = tested .before in
+    let page = whole .before .before .args .page .now in
+    let row = wrong-identity page (whole .if1 .taken) (sym (tested .identified .ensures) ∙ c .before .if2 .left) in
     (ap refusalIn (c .refused .ensures .0) ∙ sym row, c .refused .ensures .1 ∙ rw row)
 
 returns-3 : tie.Need-returns-3
