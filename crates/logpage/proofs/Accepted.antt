@@ -90,13 +90,13 @@ module _ (page : List ℕ) (ok : readRefusal page ≡ none) where
 
   abbrev page-rules : List Bool
   page-rules =
-      headFits (headIn page)
-      ∷ clear 13 19 page
-      ∷ blockFits (part 32 186 page)
-      ∷ clear 218 22 page
+      blockFits (part 32 186 page)
       ∷ blockFits (part 240 186 page)
-      ∷ clear 426 22 page
+      ∷ headFits (headIn page)
       ∷ tailFits (tailIn page)
+      ∷ clear 13 19 page
+      ∷ clear 218 22 page
+      ∷ clear 426 22 page
       ∷ clear 465 29 page
       ∷ []
 
@@ -113,7 +113,7 @@ module _ (page : List ℕ) (ok : readRefusal page ≡ none) where
       ∷ []
 
   pub tail-rule : (k : ℕ) → getD tail-rules k true ≡ true
-  tail-rule = passed tail-rules (page-rule 6)
+  tail-rule = passed tail-rules (page-rule 3)
 
   identity-same : identityIn page ≡ identityValues
   unfolding identified valuesAt
@@ -130,7 +130,7 @@ module _ (page : List ℕ) (ok : readRefusal page ≡ none) where
   unfolding valuesAt
   head-same =
       let h : ℕ → ℕ = λ k. getD (headIn page) k 0 in
-      let r = passed (ltb (h 0) 2 ∷ eqb (h 1) 0 ∷ ofTwelve (h 8) ∷ []) (page-rule 0) in
+      let r = passed (ltb (h 0) 2 ∷ eqb (h 1) 0 ∷ ofTwelve (h 8) ∷ []) (page-rule 2) in
       rw (flag-again (h 0) (ltb-true _ _ (r 0)), eqb-true (h 1) 0 (r 1))
 
   tail-same : tailValues (getD (tailIn page) 0 0) (debugFrom (tailIn page)) ≡ tailIn page
@@ -172,11 +172,11 @@ module _ (page : List ℕ) (ok : readRefusal page ≡ none) where
     unfolding fieldsIn pageBytes headBytes windowsBytes tailBytes narrow total
     page-again =
         let f = part-again headWidths _ 0 13 (omega arith) refl refl head-same in
-        let z₁ = zeros-again 13 19 (omega arith) (page-rule 1) in
-        let a = window-again 32 (omega arith) (page-rule 2) in
-        let z₂ = zeros-again 218 22 (omega arith) (page-rule 3) in
-        let s = window-again 240 (omega arith) (page-rule 4) in
-        let z₃ = zeros-again 426 22 (omega arith) (page-rule 5) in
+        let z₁ = zeros-again 13 19 (omega arith) (page-rule 4) in
+        let a = window-again 32 (omega arith) (page-rule 0) in
+        let z₂ = zeros-again 218 22 (omega arith) (page-rule 5) in
+        let s = window-again 240 (omega arith) (page-rule 1) in
+        let z₃ = zeros-again 426 22 (omega arith) (page-rule 6) in
         let t = part-again tailWidths _ 448 17 (omega arith) refl refl tail-same in
         let z₄ = zeros-again 465 29 (omega arith) (page-rule 7) in
         let v = part-again identityWidths _ 494 18 (omega arith) refl refl (sym identity-same) in

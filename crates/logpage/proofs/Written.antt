@@ -197,15 +197,15 @@ module _ (p : LogPage) (x : Fits p) (fit : fieldsFit p ≡ true) where
   page-kept =
       let c = clear-parts p in
       rw (
-        head-kept,
-        c .0,
         active-part p,
         block-kept (p .«active_window») (x .active) (kept 2),
-        c .1,
         static-part p,
         block-kept (p .«static_window») (x .static) (kept 3),
-        c .2,
+        head-kept,
         tail-kept,
+        c .0,
+        c .1,
+        c .2,
         c .3,
       )
 

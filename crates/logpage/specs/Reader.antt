@@ -114,13 +114,13 @@ tailFits tail =
 unfoldable pub pageKeeps : List ℕ → (head tail : List ℕ) → (active static : Window) → Bool
 pageKeeps page head tail active static =
     all
-    (headFits head
-    ∷ clear 13 19 page
-    ∷ blockKeeps (part 32 186 page) active
-    ∷ clear 218 22 page
+    (blockKeeps (part 32 186 page) active
     ∷ blockKeeps (part 240 186 page) static
-    ∷ clear 426 22 page
+    ∷ headFits head
     ∷ tailFits tail
+    ∷ clear 13 19 page  -- the bytes of no field
+    ∷ clear 218 22 page
+    ∷ clear 426 22 page
     ∷ clear 465 29 page
     ∷ [])
 

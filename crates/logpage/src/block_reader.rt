@@ -96,14 +96,11 @@ pub(crate) fn read_block(block: &[u8]) -> Window
     Window::of(counters, stamps, latencies, units)
 }
 
+// Without a branch: which stamps are set differs from page to page.
 fn counter_fits(counter: u32, stamp: u64, latency: u16, unit: bool) -> bool
     ensures { λ r. ⌜ r ≡ counterFits counter stamp latency unit ⌝ }
 {
-    if stamp == UNSET {
-        (counter == 0) & (latency == 0) & !unit
-    } else {
-        stamp < CLOCK_END
-    }
+    (stamp < CLOCK_END) | ((stamp == UNSET) & (counter == 0) & (latency == 0) & !unit)
 }
 
 fn window_fits(w: Window) -> bool

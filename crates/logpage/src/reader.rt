@@ -182,13 +182,13 @@ fn keeps(
     requires { ⌜ (length (now page) ≡ 512) × Bounded tailWidths tail ⌝ }
     ensures { λ r. ⌜ r ≡ pageKeeps (now (page .entry)) head tail «active_window» «static_window» ⌝ }
 {
-    head_fits(head)
-        & !endian::any_set(&page[13..32])
-        & block_reader::keeps(&page[32..218], active_window)
-        & !endian::any_set(&page[218..240])
+    block_reader::keeps(&page[32..218], active_window)
         & block_reader::keeps(&page[240..426], static_window)
-        & !endian::any_set(&page[426..448])
+        & head_fits(head)
         & tail_fits(tail)
+        & !endian::any_set(&page[13..32])
+        & !endian::any_set(&page[218..240])
+        & !endian::any_set(&page[426..448])
         & !endian::any_set(&page[465..494])
 }
 

@@ -1,10 +1,11 @@
 -- Laws of the block's reader: arrays filled one by one, and tests asked one by one.
-use mathlib.Core.Bool.{Bool, not, _&&_}
+use mathlib.Core.Bool.{Bool, true, false, not, cond, _&&_, _||_}
 use mathlib.Core.List.{List, [], _∷_}
-use mathlib.Core.Path.{_≡_}
+use mathlib.Core.Path.{_≡_, refl}
 use Prim.Native.Nat.{ℕ, suc, _+_, _-_, _/_, _%_, _<_, _≤_}
 use native.Mathlib.Numerals.{add-one}
 use native.Mathlib.Omega.{arith}
+use borrow.Author.Tests.{eqb-true, le-ltb}
 use lib.Dec.{eqb, ltb}
 use lib.ListN.{length, set}
 use lib.Seq.{sets}
@@ -13,8 +14,8 @@ use Rattle.endian.specs.Loads.{number, part, valuesAt}
 use Rattle.endian.proofs.Runs.{sets-whole}
 use Rattle.logpage.specs.Answers.{passes}
 use Rattle.logpage.specs.Block.{flags, counterPlace, stampPlace, latencyPlace}
-use Rattle.logpage.specs.BlockReader.{windowIn, windowFits, blockKeeps}
-use Rattle.logpage.specs.Fields.{windowOf, from, each}
+use Rattle.logpage.specs.BlockReader.{windowIn, counterFits, windowFits, blockKeeps}
+use Rattle.logpage.specs.Fields.{unset, windowOf, from, each}
 use Rattle.logpage.specs.declared.Window.{Window}
 
 -- an array of twelve: what is left, stored from here, gives the whole
@@ -83,6 +84,29 @@ module _ (test : ℕ → Bool) where
   tests-end so-far answer n h k =
       let p : 12 - n ≡ 0 = omega arith in
       rw p at k
+
+-- a counter: an unset stamp is not below 2^48
+pub counter-kept :
+    (counter stamp latency : ℕ) (unit : Bool) →
+    (ltb stamp 281474976710656 || (((eqb stamp unset && eqb counter 0) && eqb latency 0) && not unit)) ≡
+    counterFits counter stamp latency unit
+unfolding counterFits
+counter-kept counter stamp latency unit = by (eqb stamp unset) refl
+  where
+    shown : Bool
+    shown = (eqb counter 0 && eqb latency 0) && not unit
+
+    or-false : (b : Bool) → (b || false) ≡ b
+    or-false true = refl
+    or-false false = refl
+
+    by :
+        (t : Bool) →
+        eqb stamp unset ≡ t →
+        (ltb stamp 281474976710656 || (((t && eqb counter 0) && eqb latency 0) && not unit)) ≡
+        cond t shown (ltb stamp 281474976710656)
+    by true e = rw (le-ltb stamp 281474976710656 (omega (arith, eqb-true stamp unset e)))
+    by false e = or-false (ltb stamp 281474976710656)
 
 -- the arrays that were read by their places are those of the window
 pub block-read :

@@ -27,19 +27,19 @@ part-bounded widths page values at n bytes e k =
 
 -- the rules of the layout, one by one
 pub page-kept :
-    (page head tail : List ℕ) (active static : Window) (h a b c d t x y : Bool) →
-    h ≡ headFits head →
-    a ≡ anySet (part 13 19 page) →
+    (page head tail : List ℕ) (active static : Window) (x y h t a b c d : Bool) →
     x ≡ blockKeeps (part 32 186 page) active →
-    b ≡ anySet (part 218 22 page) →
     y ≡ blockKeeps (part 240 186 page) static →
-    c ≡ anySet (part 426 22 page) →
+    h ≡ headFits head →
     t ≡ tailFits tail →
+    a ≡ anySet (part 13 19 page) →
+    b ≡ anySet (part 218 22 page) →
+    c ≡ anySet (part 426 22 page) →
     d ≡ anySet (part 465 29 page) →
-    (((((((h && not a) && x) && not b) && y) && not c) && t) && not d) ≡ pageKeeps page head tail active static
+    (((((((x && y) && h) && t) && not a) && not b) && not c) && not d) ≡ pageKeeps page head tail active static
 unfolding pageKeeps
-page-kept page head tail active static h a b c d t x y eh ea ex eb ey ec et ed =
-    rw (eh, ea, ex, eb, ey, ec, et, ed)
+page-kept page head tail active static x y h t a b c d ex ey eh et ea eb ec ed =
+    rw (ex, ey, eh, et, ea, eb, ec, ed)
 
 -- what was read of a page, and the answer about its layout
 module _ (page head tail : List ℕ) (active static : Window) (kept : Bool)
