@@ -29,6 +29,7 @@ static struct latency_monitor_command below[SHORT], slow[SHORT], each_counter[CO
 static uint32_t ms[SHORT];
 static uint64_t clocks[SHORT];
 static struct named_settings settings[LONG];
+static _Alignas(64) struct log_page pages[LONG];
 
 /* Each counter has as many of a lap's slow commands, and the twelve numbers add up to 66. */
 #define COUNTED (((uint64_t)SHORT << COUNTED_AT) + SHORT / COUNTERS * 66)
@@ -48,6 +49,7 @@ static const struct work works[] = {
     {.name = "set_clock", .call = SET_CLOCK, .calls = SHORT, .clocks = clocks},
     {.name = "power_up", .call = POWER_UP, .calls = SHORT},
     {.name = "page", .call = PAGE, .calls = LONG},
+    {.name = "read_page", .call = READ_PAGE, .calls = LONG, .pages = pages},
     {.name = "settings_back", .call = SETTINGS_BACK, .calls = LONG},
     {.name = "configure", .call = CONFIGURE, .calls = LONG, .settings = settings},
     {.name = "new", .call = NEW, .calls = LONG},
@@ -116,6 +118,34 @@ static void draw_slow(void)
         slow[i] = command_for(order[i], 1000 * seen[order[i]]++ + draw(1000));
 }
 
+static void complete_some(const struct side *side)
+{
+    for (int n = 0; n < COUNTERS; n++)
+        if (draw(2))
+            side->once(&(struct stroke){.call = COMPLETION, .command = command_for(n, draw(100000))});
+}
+
+/* Pages of monitors: some counters counted in each window, some under the host's clock, and a debug log in every second
+ * one. */
+static void draw_pages(void)
+{
+    static uint8_t back[LATENCY_MONITOR_SETTINGS_LENGTH];
+    const struct side *side = &product;
+
+    for (int i = 0; i < LONG; i++) {
+        uint16_t mode = (uint16_t)draw(4096), trigger = i % 2 ? 0x0FFF : 0;
+        side->once(&(struct stroke){.call = NEW});
+        side->once(&(struct stroke){.call = CONFIGURE, .settings = settings_of(1, mode, trigger, true)});
+        side->once(&(struct stroke){.call = SET_CLOCK, .clock = clocks[i]});
+        complete_some(side);
+        side->once(&(struct stroke){.call = ELAPSED, .ms = INCREMENT_MS});
+        if (draw(2))
+            side->once(&(struct stroke){.call = POWER_UP});
+        complete_some(side);
+        side->show(pages[i].bytes, back);
+    }
+}
+
 /* A run's elapsed times stay below the timer's increment. */
 static void draw_inputs(void)
 {
@@ -134,6 +164,7 @@ static void draw_inputs(void)
         settings[i].bytes[8] = (uint8_t)draw(256);
         settings[i].bytes[11] = (uint8_t)draw(2);
     }
+    draw_pages();
 }
 
 /* A monitor in use: enabled, the clock set, every stamp set, and a debug log held. */
@@ -164,6 +195,38 @@ static void check_shown(const struct work *w)
             fail(w->name, "the pages differ");
         if (memcmp(back[s], back[0], sizeof back[0]) != 0)
             fail(w->name, "the settings given back differ");
+    }
+}
+
+/* Reads a page on each side: all turn it away by one number, or write it again as it was. Gives the number. */
+static uint8_t read_alike(const struct log_page *page)
+{
+    static uint8_t written[LATENCY_MONITOR_PAGE_LENGTH];
+    uint8_t refusal = sides[0]->again(page, written);
+
+    for (int s = 0; s < SIDES; s++) {
+        if (sides[s]->again(page, written) != refusal)
+            fail("read_page", "the refusals differ");
+        if (refusal == LATENCY_MONITOR_ACCEPTED && memcmp(written, page->bytes, sizeof written) != 0)
+            fail("read_page", "the page written again differs");
+    }
+    return refusal;
+}
+
+/* The pages are accepted and no two are the same; then with a bit changed in each byte in turn. */
+static void check_readings(void)
+{
+    for (int i = 0; i < LONG; i++) {
+        if (read_alike(&pages[i]) != LATENCY_MONITOR_ACCEPTED)
+            fail("read_page", "a page is turned away");
+        for (int j = 0; j < i; j++)
+            if (memcmp(&pages[i], &pages[j], sizeof pages[i]) == 0)
+                fail("read_page", "two pages are the same");
+        for (int place = 0; place < LATENCY_MONITOR_PAGE_LENGTH; place++) {
+            struct log_page changed = pages[i];
+            changed.bytes[place] ^= (uint8_t)(1u << draw(8));
+            read_alike(&changed);
+        }
     }
 }
 
@@ -248,6 +311,7 @@ static void print_times(size_t rounds)
 {
     static double ns[SIDES][MOST_ROUNDS], middle[WORKS][SIDES];
 
+    check_readings();
     for (int k = 0; k < WORKS; k++) {
         const double *empty = middle[empty_of(works[k].call)];
         int c;
@@ -272,16 +336,22 @@ static void count(size_t side, size_t work, size_t laps)
     printf("%zu\n", laps * works[work].calls);
 }
 
-/* Each call in its ways: a completion loads and takes a debug log, and then neither; the window ends. */
+/* Each call in its ways: a completion loads and takes a debug log, and then neither; the window ends; a page that is
+ * read is turned away. */
 static void note_depths(const struct side *side, size_t depth[CALLS])
 {
+    static const struct log_page no_page;
+    struct log_page broken = pages[0];
     const struct stroke strokes[] = {
         {.call = NEW}, {.call = CONFIGURE, .settings = settings_of(1, LARGEST, LARGEST, true)},
         {.call = SET_CLOCK, .clock = 1}, {.call = COMPLETION, .command = below[0]},
         {.call = COMPLETION, .command = slow[0]}, {.call = ELAPSED, .ms = 1}, {.call = ELAPSED, .ms = INCREMENT_MS},
-        {.call = ELAPSED, .ms = INCREMENT_MS + 1}, {.call = POWER_UP}, {.call = PAGE}, {.call = SETTINGS_BACK}
+        {.call = ELAPSED, .ms = INCREMENT_MS + 1}, {.call = POWER_UP}, {.call = PAGE}, {.call = SETTINGS_BACK},
+        {.call = READ_PAGE, .page = &pages[0]}, {.call = READ_PAGE, .page = &pages[1]},
+        {.call = READ_PAGE, .page = &broken}, {.call = READ_PAGE, .page = &no_page}
     };
 
+    broken.bytes[1] = 1;
     for (size_t i = 0; i < sizeof strokes / sizeof strokes[0]; i++) {
         size_t here = stack_depth(side, &strokes[i]);
         if (here > depth[strokes[i].call])
@@ -293,7 +363,8 @@ static void print_stack(void)
 {
     static const char *const names[CALLS] = {
         [NEW] = "new", [CONFIGURE] = "configure", [COMPLETION] = "completion", [ELAPSED] = "elapsed",
-        [SET_CLOCK] = "set_clock", [POWER_UP] = "power_up", [PAGE] = "page", [SETTINGS_BACK] = "settings_back"
+        [SET_CLOCK] = "set_clock", [POWER_UP] = "power_up", [PAGE] = "page", [READ_PAGE] = "read_page",
+        [SETTINGS_BACK] = "settings_back"
     };
     size_t depth[SIDES][CALLS] = {{0}};
 

@@ -1,7 +1,7 @@
 #!/usr/bin/env bash
 # Measures the calls of the product's archive beside the monitor in C: time, instructions, sizes and stack.
 #   bench/calls.sh [ROUNDS]
-# Fails if answers, pages or settings given back differ, or if the archive has data of its own.
+# Fails if answers, pages, what is read of them, or settings given back differ, or if the archive has data of its own.
 set -euo pipefail
 top=$(cd "$(dirname "$0")/.." && pwd)
 bench=$top/bench
@@ -105,6 +105,8 @@ table() {
 ./calls times "$ROUNDS" > measured
 with_instructions < measured | table 'Call' 'ns' 'C -O2' 'C -O3' 'ratio' 'smallest' 'largest' 'net' \
     'instr.' 'C -O2' 'C -O3' 'ratio'
+awk -F '\t' '{ ns[$1] = $2 }
+    END { printf "read_page takes %.2f times as long as page.\n\n", ns["read_page"] / ns["page"] }' measured
 {
     printf 'record\t%s\n' "$(./calls record)"
     sections 'code' '^[.]text'

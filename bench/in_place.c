@@ -3,18 +3,37 @@
 #include <endian.h>
 #include <string.h>
 
-enum { INCREMENT_MS = 300000, NAMED_SETTINGS = 13 };
+enum { INCREMENT_MS = 300000, NAMED_SETTINGS = 13, VERSION = 4 };
 
 #define CLOCK_TOP UINT64_C(0xFFFFFFFFFFFF)
 
 /* The place of a field's lowest bit in the answer to a completion. */
 #define AT(field) (8 * offsetof(struct latency_monitor_completion_answer, field))
 
+static const uint8_t guid[16] = {
+    0x92, 0x7A, 0xC0, 0x8C, 0xD0, 0x84, 0x6C, 0x9C,
+    0x70, 0x43, 0xE6, 0xD4, 0x58, 0x5E, 0xD4, 0x85
+};
+
 static uint16_t get16(const uint8_t *p)
 {
     uint16_t v;
     memcpy(&v, p, sizeof v);
     return le16toh(v);
+}
+
+static uint32_t get32(const uint8_t *p)
+{
+    uint32_t v;
+    memcpy(&v, p, sizeof v);
+    return le32toh(v);
+}
+
+static uint64_t get64(const uint8_t *p)
+{
+    uint64_t v;
+    memcpy(&v, p, sizeof v);
+    return le64toh(v);
 }
 
 static void put16(uint8_t *p, uint16_t v)
@@ -234,11 +253,6 @@ static void put_debug(uint8_t *p, const struct in_place *m)
 
 uint8_t in_place_page(const struct in_place *m, uint8_t *p, size_t length)
 {
-    static const uint8_t guid[16] = {
-        0x92, 0x7A, 0xC0, 0x8C, 0xD0, 0x84, 0x6C, 0x9C,
-        0x70, 0x43, 0xE6, 0xD4, 0x58, 0x5E, 0xD4, 0x85
-    };
-
     if (length != LATENCY_MONITOR_PAGE_LENGTH)
         return LATENCY_MONITOR_PAGE_LENGTH_WRONG;
     memset(p, 0, length);
@@ -252,7 +266,7 @@ uint8_t in_place_page(const struct in_place *m, uint8_t *p, size_t length)
     put_window(p + 240, &m->static_window);
     put16(p + 448, m->trigger);
     put_debug(p, m);
-    put16(p + 494, 0x0004);
+    put16(p + 494, VERSION);
     memcpy(p + 496, guid, sizeof guid);
     return LATENCY_MONITOR_ACCEPTED;
 }
@@ -268,5 +282,101 @@ uint8_t in_place_settings_back(const struct in_place *m, uint8_t *s, size_t leng
     s[8] = m->minimum_window;
     put16(s + 9, m->trigger);
     s[12] = m->enabled;
+    return LATENCY_MONITOR_ACCEPTED;
+}
+
+/* Whether 16 to 32 bytes are zero. */
+static bool clear(const uint8_t *p, size_t length)
+{
+    return (get64(p) | get64(p + 8) | get64(p + length - 16) | get64(p + length - 8)) == 0;
+}
+
+/* With a stamp that is not set, counter, latency and units are zero. */
+static bool window_fits(const uint8_t *p)
+{
+    unsigned units = get16(p + 184);
+
+    if (units >> LATENCY_MONITOR_COUNTERS)
+        return false;
+    for (int b = 0, n = 0; b < 4; b++) {
+        if (get32(p + 16 * b))
+            return false;
+        for (int kind = 0; kind < 3; kind++, n++) {
+            int from_last = LATENCY_MONITOR_COUNTERS - 1 - n;
+            uint64_t stamp = get64(p + 64 + 8 * from_last);
+            if (stamp <= CLOCK_TOP)
+                continue;
+            if (stamp != LATENCY_MONITOR_UNSET || get32(p + 16 * b + 12 - 4 * kind)
+                || get16(p + 160 + 2 * from_last) || units >> n & 1)
+                return false;
+        }
+    }
+    return true;
+}
+
+/* The pointer is zero. A debug log that is held has one source; with none all is zero. */
+static bool debug_fits(const uint8_t *p)
+{
+    uint64_t stamp = get64(p + 452);
+    unsigned source = get16(p + 462);
+
+    if (get16(p + 460))
+        return false;
+    if (stamp == LATENCY_MONITOR_UNSET)
+        return (get16(p + 450) | source | p[464]) == 0;
+    return stamp <= CLOCK_TOP && p[464] <= 1 && source && (source & (source - 1)) == 0
+        && source >> LATENCY_MONITOR_COUNTERS == 0;
+}
+
+static bool page_fits(const uint8_t *p)
+{
+    return p[0] <= 1 && p[1] == 0 && clear(p + 13, 19) && clear(p + 218, 22) && clear(p + 426, 22)
+        && clear(p + 465, 29) && (get16(p + 10) | get16(p + 448)) >> LATENCY_MONITOR_COUNTERS == 0
+        && window_fits(p + 32) && window_fits(p + 240) && debug_fits(p);
+}
+
+static void get_window(struct in_place_window *w, const uint8_t *p)
+{
+    for (int b = 0; b < 4; b++) {
+        w->count[3 * b + 2] = get32(p + 16 * b + 4);
+        w->count[3 * b + 1] = get32(p + 16 * b + 8);
+        w->count[3 * b] = get32(p + 16 * b + 12);
+    }
+    for (int n = 0; n < LATENCY_MONITOR_COUNTERS; n++) {
+        w->stamp[n] = get64(p + 64 + 8 * (LATENCY_MONITOR_COUNTERS - 1 - n));
+        w->latency[n] = get16(p + 160 + 2 * (LATENCY_MONITOR_COUNTERS - 1 - n));
+    }
+    w->units = get16(p + 184);
+}
+
+static void get_debug(struct in_place_reading *r, const uint8_t *p)
+{
+    unsigned source = get16(p + 462);
+
+    r->debug_stamp = get64(p + 452);
+    r->debug_held = r->debug_stamp != LATENCY_MONITOR_UNSET;
+    r->debug_latency = get16(p + 450);
+    r->debug_units = p[464];
+    r->debug_counter = source ? (uint8_t)__builtin_ctz(source) : 0;
+}
+
+uint8_t in_place_read_page(struct in_place_reading *r, const uint8_t *p, size_t length)
+{
+    if (length != LATENCY_MONITOR_PAGE_LENGTH)
+        return LATENCY_MONITOR_READ_LENGTH_WRONG;
+    if (get16(p + 494) != VERSION || memcmp(p + 496, guid, sizeof guid) != 0)
+        return LATENCY_MONITOR_READ_IDENTITY;
+    if (!page_fits(p))
+        return LATENCY_MONITOR_READ_LAYOUT;
+    r->enabled = p[0];
+    r->timer = get16(p + 2);
+    r->timer_threshold = get16(p + 4);
+    memcpy(r->thresholds, p + 6, sizeof r->thresholds);
+    r->mode = get16(p + 10);
+    r->minimum_window = p[12];
+    get_window(&r->active_window, p + 32);
+    get_window(&r->static_window, p + 240);
+    r->trigger = get16(p + 448);
+    get_debug(r, p);
     return LATENCY_MONITOR_ACCEPTED;
 }

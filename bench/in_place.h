@@ -1,6 +1,6 @@
 /*
  * The latency monitor in C, its record changed in place: what the product is measured against. The calls are those of
- * latency_monitor.h, on a record of its own.
+ * latency_monitor.h, on a record and a reading of its own.
  */
 #ifndef IN_PLACE_H
 #define IN_PLACE_H
@@ -37,6 +37,24 @@ struct in_place {
     struct in_place_window static_window;
 };
 
+/* What a page shows. */
+struct in_place_reading {
+    uint8_t thresholds[4];
+    uint16_t timer_threshold;
+    uint16_t timer;
+    uint16_t mode;
+    uint16_t trigger;
+    uint8_t minimum_window;
+    bool enabled;
+    bool debug_held;
+    bool debug_units;
+    uint8_t debug_counter;
+    uint16_t debug_latency;
+    uint64_t debug_stamp;
+    struct in_place_window active_window;
+    struct in_place_window static_window;
+};
+
 void in_place_new(struct in_place *m);
 uint8_t in_place_configure(struct in_place *m, const uint8_t *settings, size_t length);
 struct latency_monitor_completion_answer in_place_completion(
@@ -46,5 +64,6 @@ uint8_t in_place_set_clock(struct in_place *m, uint64_t ms);
 uint8_t in_place_power_up(struct in_place *m);
 uint8_t in_place_page(const struct in_place *m, uint8_t *page, size_t length);
 uint8_t in_place_settings_back(const struct in_place *m, uint8_t *settings, size_t length);
+uint8_t in_place_read_page(struct in_place_reading *r, const uint8_t *page, size_t length);
 
 #endif

@@ -1,4 +1,5 @@
-/* One side: its record, and the loops over its calls. It is compiled for each side, with SIDE as the side's name. */
+/* One side: its record and its reading, and the loops over its calls. It is compiled for each side, with SIDE as the
+ * side's name. */
 
 #include "side.h"
 
@@ -8,9 +9,11 @@
 #include "in_place.h"
 #define CALL(name) in_place_##name
 static _Alignas(64) struct in_place record;
+static _Alignas(64) struct in_place_reading reading;
 #else
 #define CALL(name) latency_monitor_##name
 static _Alignas(64) struct latency_monitor record;
+static _Alignas(64) struct latency_monitor_reading reading;
 #endif
 
 static _Alignas(64) uint8_t settings[LATENCY_MONITOR_SETTINGS_LENGTH];
@@ -44,6 +47,7 @@ static uint64_t once(const struct stroke *s)
     case SET_CLOCK: return CALL(set_clock)(&record, s->clock);
     case POWER_UP: return CALL(power_up)(&record);
     case PAGE: return CALL(page)(&record, page, sizeof page);
+    case READ_PAGE: return CALL(read_page)(&reading, s->page->bytes, sizeof s->page->bytes);
     case SETTINGS_BACK: return CALL(settings_back)(&record, settings, sizeof settings);
     default: return empty_number(&record);
     }
@@ -68,6 +72,7 @@ LAP(elapsed_lap, elapsed_number(CALL(elapsed)(&record, w->ms[i])))
 LAP(set_clock_lap, CALL(set_clock)(&record, w->clocks[i]))
 LAP(power_up_lap, CALL(power_up)(&record))
 LAP(page_lap, CALL(page)(&record, page, sizeof page))
+LAP(read_page_lap, CALL(read_page)(&reading, w->pages[i].bytes, sizeof w->pages[i].bytes))
 LAP(settings_back_lap, CALL(settings_back)(&record, settings, sizeof settings))
 
 static uint64_t run(const struct work *w, size_t laps)
@@ -76,7 +81,7 @@ static uint64_t run(const struct work *w, size_t laps)
         [EMPTY_COMPLETION] = empty_completion_lap, [EMPTY_NUMBER] = empty_number_lap, [NEW] = new_lap,
         [CONFIGURE] = configure_lap, [COMPLETION] = completion_lap, [ELAPSED] = elapsed_lap,
         [SET_CLOCK] = set_clock_lap, [POWER_UP] = power_up_lap, [PAGE] = page_lap,
-        [SETTINGS_BACK] = settings_back_lap
+        [READ_PAGE] = read_page_lap, [SETTINGS_BACK] = settings_back_lap
     };
     uint64_t sum = 0;
 
@@ -94,4 +99,46 @@ static void show(uint8_t *p, uint8_t *s)
     CALL(settings_back)(&record, s, LATENCY_MONITOR_SETTINGS_LENGTH);
 }
 
-const struct side SIDE = {sizeof record, once, run, show};
+/* A record that shows what was read. */
+#ifdef IN_PLACE
+static void take_over(void)
+{
+    memcpy(record.thresholds, reading.thresholds, sizeof record.thresholds);
+    record.timer_threshold = reading.timer_threshold;
+    record.timer = reading.timer;
+    record.mode = reading.mode;
+    record.trigger = reading.trigger;
+    record.minimum_window = reading.minimum_window;
+    record.enabled = reading.enabled;
+    record.debug_held = reading.debug_held;
+    record.debug_units = reading.debug_units;
+    record.debug_counter = reading.debug_counter;
+    record.debug_latency = reading.debug_latency;
+    record.debug_stamp = reading.debug_stamp;
+    record.active_window = reading.active_window;
+    record.static_window = reading.static_window;
+}
+#else
+static void take_over(void)
+{
+    record.settings = reading.page.settings;
+    record.timer = reading.page.timer;
+    record.active_window = reading.page.active_window;
+    record.static_window = reading.page.static_window;
+    record.debug = reading.page.debug;
+    record.debug.source = (uint16_t)((unsigned)reading.debug_held << reading.debug_counter);
+}
+#endif
+
+static uint8_t again(const struct log_page *p, uint8_t *written)
+{
+    uint8_t refusal = CALL(read_page)(&reading, p->bytes, sizeof p->bytes);
+
+    if (refusal == LATENCY_MONITOR_ACCEPTED) {
+        take_over();
+        CALL(page)(&record, written, LATENCY_MONITOR_PAGE_LENGTH);
+    }
+    return refusal;
+}
+
+const struct side SIDE = {sizeof record, once, run, show, again};

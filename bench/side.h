@@ -4,16 +4,21 @@
 
 #include "latency_monitor.h"
 
-/* The eight calls, after two that do nothing: one answers as a completion does, the other a number. */
+/* The nine calls, after two that do nothing: one answers as a completion does, the other a number. */
 enum call {
     EMPTY_COMPLETION, EMPTY_NUMBER,
-    NEW, CONFIGURE, COMPLETION, ELAPSED, SET_CLOCK, POWER_UP, PAGE, SETTINGS_BACK,
+    NEW, CONFIGURE, COMPLETION, ELAPSED, SET_CLOCK, POWER_UP, PAGE, READ_PAGE, SETTINGS_BACK,
     CALLS
 };
 
 /* The settings bytes that are not reserved; all others are zero. */
 struct named_settings {
     uint8_t bytes[13];
+};
+
+/* A page to be read. */
+struct log_page {
+    uint8_t bytes[LATENCY_MONITOR_PAGE_LENGTH];
 };
 
 /* A case: laps of so many calls of one function, with an input for each call of a lap. */
@@ -25,6 +30,7 @@ struct work {
     const uint32_t *ms;
     const uint64_t *clocks;
     const struct named_settings *settings;
+    const struct log_page *pages;
     uint16_t mode;    /* of the monitor that is called */
     uint32_t lap_ms;  /* time that passes before each lap */
     uint64_t answers; /* the sum of a lap's answers */
@@ -40,14 +46,16 @@ struct stroke {
     uint32_t ms;
     uint64_t clock;
     struct named_settings settings;
+    const struct log_page *page;
 };
 
-/* An implementation, with a record of its own. */
+/* An implementation, with a record and a reading of its own. */
 struct side {
     size_t record_size;
     uint64_t (*once)(const struct stroke *stroke);
     uint64_t (*run)(const struct work *work, size_t laps);
     void (*show)(uint8_t *page, uint8_t *settings);
+    uint8_t (*again)(const struct log_page *page, uint8_t *written); /* reads a page, and writes what was read */
 };
 
 struct latency_monitor_completion_answer empty_completion(

@@ -4,16 +4,17 @@
  *
  * Firmware keeps one record for each drive and lends it for each call. There is no allocation and no state but the
  * record, so calls on distinct records may run at the same time. Calls on one record must not, those of interrupt
- * handlers included, unless both take it as const. No two pointers of a call may overlap.
+ * handlers included, unless both take it as const. No two pointers of a call may overlap. Tools that open the pages of
+ * drives need no record: they lend a reading, for which the same holds.
  *
- * A call that is turned away answers with its refusal number and leaves record and buffer as they were. Any number may
- * be passed, and a buffer of any length, with its own length beside it. No pointer may be null.
+ * A call that is turned away answers with its refusal number and leaves record, reading and buffer as they were. Any
+ * number may be passed, and a buffer of any length, with its own length beside it. No pointer may be null.
  *
  * The archive runs on x86-64, with the calling convention of System V:
  *
  *     cc -std=c11 -I include firmware.c liblatency_monitor.a
  *
- * It asks the firmware for memcpy and memset, and a call takes at most 1,064 bytes of stack beside what those take. It
+ * It asks the firmware for memcpy and memset, and a call takes at most 1,152 bytes of stack beside what those take. It
  * uses SSE2 registers and the red zone (128 bytes below the stack pointer), so it is not for code that must do without.
  *
  * Nothing in this header is of x86-64: it compiles where a bool is one byte and a uint64_t is aligned to eight, as on
@@ -57,7 +58,7 @@ extern "C" {
 /* Changes when the record does. */
 #define LATENCY_MONITOR_RECORD_VERSION 1
 
-/* Why a call is turned away; the first that applies is the answer. */
+/* Why a call is turned away; the first that applies is the answer. 11 and 12 are of event files: no call has them. */
 enum latency_monitor_refusal {
     LATENCY_MONITOR_ACCEPTED = 0,
     LATENCY_MONITOR_SETTINGS_LENGTH_WRONG = 1, /* settings are not 4,096 bytes */
@@ -69,7 +70,10 @@ enum latency_monitor_refusal {
     LATENCY_MONITOR_ELAPSED_TIME = 7,          /* elapsed time is above 300,000 ms */
     LATENCY_MONITOR_CLOCK_VALUE = 8,           /* the clock is 2^48 ms or more */
     LATENCY_MONITOR_PAGE_LENGTH_WRONG = 9,     /* the page's buffer is not 512 bytes */
-    LATENCY_MONITOR_SETTINGS_BACK_LENGTH = 10  /* the settings' buffer is not 4,096 bytes */
+    LATENCY_MONITOR_SETTINGS_BACK_LENGTH = 10, /* the settings' buffer is not 4,096 bytes */
+    LATENCY_MONITOR_READ_LENGTH_WRONG = 13,    /* the page to be read is not 512 bytes */
+    LATENCY_MONITOR_READ_IDENTITY = 14,        /* its version or GUID is not that of log page C3h */
+    LATENCY_MONITOR_READ_LAYOUT = 15           /* it breaks a rule of the layout */
 };
 
 /* The settings in force. */
@@ -117,6 +121,22 @@ struct latency_monitor {
     struct latency_monitor_debug_log debug;
     struct latency_monitor_window static_window;
     struct latency_monitor_window active_window;
+};
+
+/* What a log page shows. Discard, which no page has, is no field of the settings: it counts as 0. */
+struct latency_monitor_log_page {
+    struct latency_monitor_settings settings;
+    uint16_t timer; /* Active Bucket Timer, in increments of five minutes */
+    struct latency_monitor_window active_window;
+    struct latency_monitor_window static_window;
+    struct latency_monitor_debug_log debug;
+};
+
+/* A log page that was read. The bytes between fields mean nothing, as in a record. */
+struct latency_monitor_reading {
+    struct latency_monitor_log_page page;
+    bool debug_held;       /* whether the page shows a debug log */
+    uint8_t debug_counter; /* the debug log's counter, 0 to 11; 0 if none is held */
 };
 
 /* A completed command. */
@@ -167,6 +187,24 @@ uint8_t latency_monitor_page(const struct latency_monitor *monitor, uint8_t *pag
 /* Writes the settings in force, 4,096 bytes, the discard byte as zero; turned away by 10. */
 uint8_t latency_monitor_settings_back(const struct latency_monitor *monitor, uint8_t *settings, size_t length);
 
+/*
+ * Reads log page C3h of any drive. The reading's storage may be zeroed, as static storage is, or hold a reading. A page
+ * is turned away by 13 if it is not 512 bytes, by 14 if its version or GUID is not the one that latency_monitor_page
+ * writes, and by 15 if it breaks a rule of the layout; the reading is then left as it was. The rules:
+ *
+ *   - Bytes 2 to 9 (timer, timer threshold, thresholds) and 12 (minimum window) may hold anything.
+ *   - Byte 0 (enabled) and the stamp units of the debug log are 0 or 1. Bits 12 to 15 of mode, trigger and the windows'
+ *     stamp units are zero, as are the debug log's pointer and every byte that no field has.
+ *   - A counter's stamp is below 2^48, or it is LATENCY_MONITOR_UNSET, and then the counter, its measured latency and
+ *     its stamp units are zero.
+ *   - The debug log's stamp is below 2^48, and its source has one bit of 0 to 11 set and no other; or the stamp is
+ *     LATENCY_MONITOR_UNSET, and measured latency, source and stamp units are zero.
+ *
+ * So each page that latency_monitor_page writes is accepted. Others are too: thresholds may be out of order, and a
+ * stamp be set where the counter is 0.
+ */
+uint8_t latency_monitor_read_page(struct latency_monitor_reading *reading, const uint8_t *page, size_t length);
+
 /* The layout that the library was compiled with. */
 #define LATENCY_MONITOR_SIZE(type, size) LATENCY_MONITOR_ASSERT(sizeof(struct type) == (size), #type)
 #define LATENCY_MONITOR_AT(type, field, offset) \
@@ -204,6 +242,18 @@ LATENCY_MONITOR_AT(latency_monitor, loaded, 32);
 LATENCY_MONITOR_AT(latency_monitor, debug, 128);
 LATENCY_MONITOR_AT(latency_monitor, static_window, 144);
 LATENCY_MONITOR_AT(latency_monitor, active_window, 328);
+
+LATENCY_MONITOR_SIZE(latency_monitor_log_page, 400);
+LATENCY_MONITOR_AT(latency_monitor_log_page, settings, 0);
+LATENCY_MONITOR_AT(latency_monitor_log_page, timer, 12);
+LATENCY_MONITOR_AT(latency_monitor_log_page, active_window, 16);
+LATENCY_MONITOR_AT(latency_monitor_log_page, static_window, 200);
+LATENCY_MONITOR_AT(latency_monitor_log_page, debug, 384);
+
+LATENCY_MONITOR_SIZE(latency_monitor_reading, 408);
+LATENCY_MONITOR_AT(latency_monitor_reading, page, 0);
+LATENCY_MONITOR_AT(latency_monitor_reading, debug_held, 400);
+LATENCY_MONITOR_AT(latency_monitor_reading, debug_counter, 401);
 
 LATENCY_MONITOR_SIZE(latency_monitor_command, 8);
 LATENCY_MONITOR_AT(latency_monitor_command, latency, 0);

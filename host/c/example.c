@@ -1,4 +1,5 @@
-/* Document 01's example as firmware would play it, with a power cycle: prints the page as the page program does. */
+/* Document 01's example as firmware would play it, with a power cycle: prints the page as the page program does, and
+ * reads it as a lab tool would. */
 
 #include <stdio.h>
 #include <stdlib.h>
@@ -55,6 +56,21 @@ static void power_cycle(void)
     expect(monitor.clock == 0, "the clock starts anew");
 }
 
+static void read_back(const uint8_t *page)
+{
+    static struct latency_monitor_reading reading;
+    const struct latency_monitor_log_page *shown = &reading.page;
+
+    expect(latency_monitor_read_page(&reading, page, LATENCY_MONITOR_PAGE_LENGTH) == LATENCY_MONITOR_ACCEPTED,
+        "the page is read");
+    expect(latency_monitor_read_page(&reading, page, 511) == LATENCY_MONITOR_READ_LENGTH_WRONG,
+        "511 bytes are read as no page");
+    expect(shown->settings.enabled && shown->settings.timer_threshold == 2, "the page shows the settings");
+    expect(shown->active_window.counters[0] == 1 && shown->active_window.latencies[0] == 7, "the page shows the Read");
+    expect(shown->static_window.stamps[0] == LATENCY_MONITOR_UNSET, "the static window is empty");
+    expect(reading.debug_held && reading.debug_counter == 0, "the page shows the debug log");
+}
+
 /* 16 bytes a line, without the lines of zeros and without the version and the GUID. */
 static void print(const uint8_t *page)
 {
@@ -86,5 +102,6 @@ int main(void)
     expect(latency_monitor_page(&monitor, page, sizeof page) == LATENCY_MONITOR_ACCEPTED, "the page");
     expect(latency_monitor_page(&monitor, page, 511) == LATENCY_MONITOR_PAGE_LENGTH_WRONG, "a page of 511 bytes");
     print(page);
+    read_back(page);
     return EXIT_SUCCESS;
 }

@@ -4,8 +4,11 @@ use latency_monitor::{Monitor, RECORD_LENGTH};
 use reference::answers::{answer, Answer};
 use reference::facts::{facts, Facts};
 use reference::history::{Call, PAGE_LENGTH, SETTINGS_LENGTH};
+use reference::page::page_bytes;
+use reference::random::Random;
 
 use crate::compare;
+use crate::pages;
 use crate::tally::Tally;
 
 pub struct Bench {
@@ -25,6 +28,14 @@ impl Bench {
 
     pub fn history(&self, at: usize) -> &[Call] {
         &self.histories[at]
+    }
+
+    /// Reads the page of each history, and damaged ones.
+    pub fn read_pages(&mut self, random: &mut Random) -> Result<(), String> {
+        for history in &self.histories {
+            pages::read_around(random, page_bytes(&facts(history)), &mut self.tally)?;
+        }
+        Ok(())
     }
 
     /// Makes each record a new monitor's, and gives the tally.
@@ -63,8 +74,8 @@ fn step(monitors: &mut [Monitor], at: usize, history: &[Call], due: Answer, salt
     Ok(())
 }
 
-/// The record, the page and the settings given back show the facts of a history, and the record's bytes bring the
-/// monitor back.
+/// The record, the page, what is read of the page, and the settings given back show the facts of a history, and the
+/// record's bytes bring the monitor back.
 fn look(monitor: &mut Monitor, history: &[Call], facts: &Facts, salt: u8) -> Result<(), String> {
     compare::fields(monitor.record(), history, facts)?;
     compare::restored(monitor, facts).map_err(|difference| format!("restored: {difference}"))?;
@@ -72,7 +83,7 @@ fn look(monitor: &mut Monitor, history: &[Call], facts: &Facts, salt: u8) -> Res
         compare::call(monitor, &call, Answer::Done, facts, salt)
             .map_err(|difference| format!("{}: {difference}", shown(&call)))?;
     }
-    Ok(())
+    compare::read_back(monitor, facts).map_err(|difference| format!("the page, read: {difference}"))
 }
 
 fn shown(call: &Call) -> String {

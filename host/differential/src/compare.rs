@@ -3,11 +3,15 @@
 use std::fmt::Debug;
 use std::ops::Range;
 
-use latency_monitor::{Command, CompletionAnswer, DamagedRecord, ElapsedAnswer, Monitor, Record, Refusal, Window};
+use latency_monitor::{
+    read_page, Command, CompletionAnswer, DamagedRecord, DebugLog, ElapsedAnswer, Monitor, Reading, Record, Refusal,
+    Settings as Held, Window,
+};
 use reference::answers::Answer;
 use reference::facts::{clock, window_time, Facts, WindowFacts, NO_STAMP};
 use reference::history::{Call, Settings, INCREMENT_MS, PAGE_LENGTH};
 use reference::page::page_bytes;
+use reference::reading;
 
 use crate::lent::{difference, Lent};
 
@@ -31,11 +35,33 @@ pub fn call(monitor: &mut Monitor, call: &Call, due: Answer, facts: &Facts, salt
     Ok(())
 }
 
+/// Reads bytes into fields that are lent, and compares the answer, and the fields if the call does not leave them. Gives
+/// the answer's number.
+pub fn read(lent: &mut Reading, bytes: &[u8]) -> Result<u8, String> {
+    let before = *lent.as_bytes();
+    let answer = lent.read(bytes).map_or_else(Refusal::number, |()| 0);
+    match reading::read_page(bytes) {
+        Ok(facts) => {
+            same("answer", answer, 0)?;
+            shown(lent, &facts)?;
+        }
+        Err(number) => {
+            same("answer", answer, number)?;
+            unchanged("reading", &before, lent.as_bytes())?;
+        }
+    }
+    Ok(answer)
+}
+
 /// The record is byte for byte as it was.
 pub fn left(before: &[u8], monitor: &Monitor) -> Result<(), String> {
-    match difference(before, monitor.as_bytes()) {
+    unchanged("record", before, monitor.as_bytes())
+}
+
+fn unchanged(what: &str, before: &[u8], after: &[u8]) -> Result<(), String> {
+    match difference(before, after) {
         None => Ok(()),
-        Some(place) => Err(format!("byte {place} of the record was changed")),
+        Some(place) => Err(format!("byte {place} of the {what} was changed")),
     }
 }
 
@@ -99,29 +125,49 @@ pub fn restored(monitor: &Monitor, facts: &Facts) -> Result<(), String> {
     Ok(())
 }
 
+/// The monitor's page is read as the facts behind it.
+pub fn read_back(monitor: &Monitor, facts: &Facts) -> Result<(), String> {
+    let mut page = [0; PAGE_LENGTH];
+    same("page", monitor.page(&mut page), Ok(()))?;
+    shown(&read_page(&page).map_err(|refusal| refusal.to_string())?, facts)
+}
+
+/// A reading's fields.
+fn shown(reading: &Reading, facts: &Facts) -> Result<(), String> {
+    let page = &reading.page;
+    settings(&page.settings, facts)?;
+    same("timer", page.timer, facts.timer)?;
+    window("static window", &page.static_window, &facts.static_window)?;
+    window("active window", &page.active_window, &facts.active_window)?;
+    debug_log(&page.debug, facts)?;
+    let due = facts.debug_log.map_or((false, 0), |(counter, _)| (true, counter));
+    same("debug_held and debug_counter", (reading.debug_held, usize::from(reading.debug_counter)), due)
+}
+
 /// The record's fields, read where the header has them.
 pub fn fields(record: &Record, history: &[Call], facts: &Facts) -> Result<(), String> {
-    let in_force = Settings {
-        timer_threshold: record.settings.timer_threshold,
-        thresholds: record.settings.thresholds,
-        mode: record.settings.mode,
-        minimum_window: record.settings.minimum_window,
-        debug_trigger: record.settings.trigger,
-        discard: facts.settings.discard,
-        enable: u8::from(record.settings.enabled),
-    };
-    same("settings", in_force, facts.settings)?;
+    settings(&record.settings, facts)?;
     same("timer", record.timer, facts.timer)?;
     let time = window_time(history, history.len()).map_or(0, |(_, time)| time);
     same("partial", u64::from(record.partial), time % INCREMENT_MS)?;
     same("clock and host_set", (record.clock, record.host_set), clock(history))?;
     window("static window", &record.static_window, &facts.static_window)?;
     window("active window", &record.active_window, &facts.active_window)?;
-    let debug = &record.debug;
-    let due = facts.debug_log.map_or((NO_STAMP, 0, 0, false), |(counter, event)| {
-        (event.stamp, event.measured_latency, 1 << counter, event.stamp_unit)
-    });
-    same("debug log", (debug.stamp, debug.latency, debug.source, debug.units), due)
+    debug_log(&record.debug, facts)
+}
+
+/// The settings in force, which have no discard.
+fn settings(held: &Held, facts: &Facts) -> Result<(), String> {
+    let in_force = Settings {
+        timer_threshold: held.timer_threshold,
+        thresholds: held.thresholds,
+        mode: held.mode,
+        minimum_window: held.minimum_window,
+        debug_trigger: held.trigger,
+        discard: facts.settings.discard,
+        enable: u8::from(held.enabled),
+    };
+    same("settings", in_force, facts.settings)
 }
 
 fn window(what: &str, window: &Window, facts: &WindowFacts) -> Result<(), String> {
@@ -133,4 +179,11 @@ fn window(what: &str, window: &Window, facts: &WindowFacts) -> Result<(), String
             .map_err(|difference| format!("counter {n} of the {difference}"))?;
     }
     Ok(())
+}
+
+fn debug_log(debug: &DebugLog, facts: &Facts) -> Result<(), String> {
+    let due = facts.debug_log.map_or((NO_STAMP, 0, 0, false), |(counter, event)| {
+        (event.stamp, event.measured_latency, 1 << counter, event.stamp_unit)
+    });
+    same("debug log", (debug.stamp, debug.latency, debug.source, debug.units), due)
 }

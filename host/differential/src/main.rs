@@ -1,4 +1,5 @@
-//! Plays histories on the C library and compares it with the reference after every call.
+//! Plays histories on the C library and compares it with the reference after every call; then reads their pages, as they
+//! are and damaged.
 //!
 //!     differential          the sweeps, and the random histories of all seeds
 //!     differential SEED     the random histories of one seed
@@ -7,6 +8,7 @@ mod bench;
 mod calls;
 mod compare;
 mod lent;
+mod pages;
 mod sweeps;
 mod tally;
 
@@ -62,6 +64,7 @@ fn sweep() -> Result<Tally, String> {
         }
         tally.add(&bench.end()?);
     }
+    pages::sweep(&mut tally).map_err(|difference| format!("a sweep of pages\n{difference}"))?;
     Ok(tally)
 }
 
@@ -96,12 +99,14 @@ fn play(seed: u64) -> Result<Tally, String> {
     let monitors = random.from(1, 4) as usize;
     let mut bench = Bench::new(monitors);
     let mut to_make: Vec<usize> = (0..monitors).map(|_| history_length(&mut random)).collect();
+    let named = |difference| format!("seed {seed}\n{difference}");
     while let Some(at) = pick_unfinished(&mut random, &to_make) {
         to_make[at] -= 1;
         let call = calls::next(&mut random, bench.history(at));
-        bench.call(at, call, random.bits() as u8).map_err(|difference| format!("seed {seed}\n{difference}"))?;
+        bench.call(at, call, random.bits() as u8).map_err(named)?;
     }
-    bench.end().map_err(|difference| format!("seed {seed}\n{difference}"))
+    bench.read_pages(&mut random).map_err(named)?;
+    bench.end().map_err(named)
 }
 
 /// Mostly short: the reference asks each fact of the whole history.

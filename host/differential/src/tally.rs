@@ -1,4 +1,4 @@
-//! How often each call, refusal and answer was met.
+//! How often each call, refusal and answer was met, and each of the pages that are read.
 
 use std::fmt::{Display, Formatter, Result as Written};
 
@@ -11,6 +11,7 @@ const LEAST: u64 = 500;
 const CALLS: [&str; 7] = ["settings", "completion", "elapsed", "clock", "power-up", "page", "settings back"];
 const REFUSALS: [&str; 10] = ["by 1", "by 2", "by 3", "by 4", "by 5", "by 6", "by 7", "by 8", "by 9", "by 10"];
 const ANSWERS: [&str; 6] = ["done", "not counted", "counted", "stamp loaded", "debug log taken", "window ended"];
+const PAGES: [&str; 4] = ["accepted", "by 13", "by 14", "by 15"];
 
 #[derive(Clone, Default)]
 pub struct Tally {
@@ -18,6 +19,7 @@ pub struct Tally {
     calls: [u64; CALLS.len()],
     refusals: [u64; REFUSALS.len()],
     answers: [u64; ANSWERS.len()],
+    pages: [u64; PAGES.len()],
 }
 
 impl Tally {
@@ -41,6 +43,11 @@ impl Tally {
         }
     }
 
+    /// A page that was read, accepted by 0.
+    pub fn page(&mut self, answer: u8) {
+        self.pages[usize::from(answer.saturating_sub(12))] += 1;
+    }
+
     pub fn add(&mut self, other: &Tally) {
         self.histories += other.histories;
         for (sum, more) in self.counts_mut().zip(other.counts()) {
@@ -50,7 +57,7 @@ impl Tally {
 
     /// The tally, unless something was met too rarely.
     pub fn if_complete(self) -> Result<Tally, String> {
-        let names = CALLS.into_iter().chain(REFUSALS).chain(ANSWERS);
+        let names = CALLS.into_iter().chain(REFUSALS).chain(ANSWERS).chain(PAGES);
         let rare: Vec<&str> = names.zip(self.counts()).filter(|&(_, n)| n < LEAST).map(|(name, _)| name).collect();
         if rare.is_empty() {
             Ok(self)
@@ -60,11 +67,11 @@ impl Tally {
     }
 
     fn counts(&self) -> impl Iterator<Item = u64> + '_ {
-        self.calls.iter().chain(&self.refusals).chain(&self.answers).copied()
+        self.calls.iter().chain(&self.refusals).chain(&self.answers).chain(&self.pages).copied()
     }
 
     fn counts_mut(&mut self) -> impl Iterator<Item = &mut u64> {
-        self.calls.iter_mut().chain(&mut self.refusals).chain(&mut self.answers)
+        self.calls.iter_mut().chain(&mut self.refusals).chain(&mut self.answers).chain(&mut self.pages)
     }
 }
 
@@ -86,7 +93,8 @@ impl Display for Tally {
         writeln!(f, "{} histories, {} calls", self.histories, self.calls.iter().sum::<u64>())?;
         writeln!(f, "calls: {}", listed(&CALLS, &self.calls))?;
         writeln!(f, "refused: {}", listed(&REFUSALS, &self.refusals))?;
-        write!(f, "answers: {}", listed(&ANSWERS, &self.answers))
+        writeln!(f, "answers: {}", listed(&ANSWERS, &self.answers))?;
+        write!(f, "pages read: {}", listed(&PAGES, &self.pages))
     }
 }
 

@@ -5,7 +5,7 @@ use core::fmt::{Display, Formatter, Result as Written};
 
 use crate::sys;
 
-/// Why a call is turned away, with document 01's numbers.
+/// Why a call is turned away, with the numbers of documents 01 and 02. 11 and 12 are of event files.
 #[derive(Clone, Copy, Debug, PartialEq, Eq)]
 #[repr(u8)]
 pub enum Refusal {
@@ -19,6 +19,9 @@ pub enum Refusal {
     ClockValue = 8,
     PageLength = 9,
     SettingsBackLength = 10,
+    ReadLength = 13,
+    ReadIdentity = 14,
+    ReadLayout = 15,
 }
 
 impl Refusal {
@@ -40,6 +43,9 @@ impl Display for Refusal {
             Refusal::ClockValue => "the clock is 2^48 ms or more",
             Refusal::PageLength => "the page's buffer is not 512 bytes",
             Refusal::SettingsBackLength => "the settings' buffer is not 4,096 bytes",
+            Refusal::ReadLength => "the page to be read is not 512 bytes",
+            Refusal::ReadIdentity => "the page's version or GUID is not that of log page C3h",
+            Refusal::ReadLayout => "the page breaks a rule of the layout",
         })
     }
 }
@@ -60,6 +66,9 @@ pub(crate) fn accepted(number: u8) -> Result<(), Refusal> {
         8 => Refusal::ClockValue,
         9 => Refusal::PageLength,
         10 => Refusal::SettingsBackLength,
+        13 => Refusal::ReadLength,
+        14 => Refusal::ReadIdentity,
+        15 => Refusal::ReadLayout,
         _ => unreachable!("the library has no refusal {number}"),
     })
 }

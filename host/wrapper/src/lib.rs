@@ -25,14 +25,16 @@
 
 mod answers;
 pub mod offsets;
+mod reading;
 mod restore;
 mod sys;
 
 use core::mem::MaybeUninit;
 
 pub use answers::{CompletionAnswer, ElapsedAnswer, Refusal};
+pub use reading::read_page;
 pub use restore::DamagedRecord;
-pub use sys::{Command, DebugLog, Record, Settings, Window, COUNTERS};
+pub use sys::{Command, DebugLog, LogPage, Reading, Record, Settings, Window, COUNTERS};
 
 /// The length of settings.
 pub const SETTINGS_LENGTH: usize = 4096;
@@ -40,6 +42,8 @@ pub const SETTINGS_LENGTH: usize = 4096;
 pub const PAGE_LENGTH: usize = 512;
 /// The length of a record.
 pub const RECORD_LENGTH: usize = size_of::<Record>();
+/// The length of a reading.
+pub const READING_LENGTH: usize = size_of::<Reading>();
 /// Changes when the record does; to be kept with a record's bytes.
 pub const RECORD_VERSION: u32 = 1;
 /// A latency stamp that is not set.

@@ -1,6 +1,6 @@
 //! What include/latency_monitor.h declares.
 //!
-//! The bytes between fields have names here, so that each byte of a record may be read.
+//! The bytes between fields have names here, so that each byte of a record or a reading may be read.
 
 use core::mem::{align_of, offset_of, size_of};
 
@@ -75,6 +75,33 @@ pub struct Record {
     pub active_window: Window,
 }
 
+/// What a log page shows. Discard, which no page has, is no field of the settings: it counts as 0.
+#[repr(C)]
+#[derive(Clone, Copy, Debug)]
+#[non_exhaustive]
+pub struct LogPage {
+    pub settings: Settings,
+    /// Active Bucket Timer, in increments of five minutes.
+    pub timer: u16,
+    padding: [u8; 2],
+    pub active_window: Window,
+    pub static_window: Window,
+    pub debug: DebugLog,
+}
+
+/// A log page that was [read](crate::read_page).
+#[repr(C)]
+#[derive(Clone, Copy, Debug)]
+#[non_exhaustive]
+pub struct Reading {
+    pub page: LogPage,
+    /// Whether the page shows a debug log.
+    pub debug_held: bool,
+    /// The debug log's counter, 0 if none is held.
+    pub debug_counter: u8,
+    padding: [u8; 6],
+}
+
 /// A completed command.
 #[repr(C)]
 #[derive(Clone, Copy, Debug)]
@@ -107,6 +134,7 @@ extern "C" {
     pub fn latency_monitor_power_up(monitor: *mut Record) -> u8;
     pub fn latency_monitor_page(monitor: *const Record, page: *mut u8, length: usize) -> u8;
     pub fn latency_monitor_settings_back(monitor: *const Record, settings: *mut u8, length: usize) -> u8;
+    pub fn latency_monitor_read_page(reading: *mut Reading, page: *const u8, length: usize) -> u8;
 }
 
 /// Holds a struct to the header: its size and alignment, and the offset of every field.
@@ -148,6 +176,17 @@ layout!(Record, 512, 8, {
     static_window: 144,
     active_window: 328,
 });
+
+layout!(LogPage, 400, 8, {
+    settings: 0,
+    timer: 12,
+    padding: 14,
+    active_window: 16,
+    static_window: 200,
+    debug: 384,
+});
+
+layout!(Reading, 408, 8, { page: 0, debug_held: 400, debug_counter: 401, padding: 402 });
 
 layout!(Command, 8, 4, { latency: 0, opcode: 4 });
 

@@ -1,6 +1,8 @@
-//! The wrapper's constants are the header's.
+//! The wrapper's constants and refusals are the header's.
 
-use latency_monitor::{offsets, COUNTERS, PAGE_LENGTH, RECORD_VERSION, SETTINGS_LENGTH};
+use latency_monitor::{
+    offsets, Refusal, COUNTERS, PAGE_LENGTH, READING_LENGTH, RECORD_LENGTH, RECORD_VERSION, SETTINGS_LENGTH,
+};
 
 const HEADER: &str = include_str!("../../../include/latency_monitor.h");
 
@@ -30,5 +32,46 @@ fn constants() {
     ];
     for (name, value) in constants {
         assert_eq!(defined(&format!("LATENCY_MONITOR_{name}")), Some(value), "{name}");
+    }
+}
+
+/// The names and numbers of the header's refusals.
+fn listed() -> Vec<(&'static str, u8)> {
+    let (_, list) = HEADER.split_once("enum latency_monitor_refusal {\n").expect("the list");
+    let (list, _) = list.split_once("};").expect("its end");
+    let named = |line: &'static str| -> Option<(&'static str, u8)> {
+        let (name, rest) = line.trim().strip_prefix("LATENCY_MONITOR_")?.split_once(" = ")?;
+        Some((name, rest.split([',', ' ']).next()?.parse().ok()?))
+    };
+    list.lines().map(|line| named(line).expect(line)).collect()
+}
+
+#[test]
+fn refusals() {
+    let refusals = [
+        ("SETTINGS_LENGTH_WRONG", Refusal::SettingsLength),
+        ("RESERVED_BYTE", Refusal::ReservedByte),
+        ("FLAG_ABOVE_ONE", Refusal::FlagAboveOne),
+        ("NO_TIMER_THRESHOLD", Refusal::NoTimerThreshold),
+        ("THRESHOLD_ORDER", Refusal::ThresholdOrder),
+        ("RESERVED_BIT", Refusal::ReservedBit),
+        ("ELAPSED_TIME", Refusal::ElapsedTime),
+        ("CLOCK_VALUE", Refusal::ClockValue),
+        ("PAGE_LENGTH_WRONG", Refusal::PageLength),
+        ("SETTINGS_BACK_LENGTH", Refusal::SettingsBackLength),
+        ("READ_LENGTH_WRONG", Refusal::ReadLength),
+        ("READ_IDENTITY", Refusal::ReadIdentity),
+        ("READ_LAYOUT", Refusal::ReadLayout),
+    ];
+    let mut due = vec![("ACCEPTED", 0)];
+    due.extend(refusals.map(|(name, refusal)| (name, refusal.number())));
+    assert_eq!(listed(), due);
+}
+
+#[test]
+fn sizes() {
+    for (name, size) in [("latency_monitor", RECORD_LENGTH), ("latency_monitor_reading", READING_LENGTH)] {
+        let held = format!("LATENCY_MONITOR_SIZE({name}, {size});");
+        assert!(HEADER.lines().any(|line| line == held), "{held}");
     }
 }
