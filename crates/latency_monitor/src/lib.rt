@@ -9,12 +9,13 @@ pub use answers::PlainCompletionAnswer;
 pub use answers::PlainElapsedAnswer;
 ghost use mathlib.Core.Path.{_≡_};
 ghost use lib.ListN.{length};
+ghost use Rattle.logpage.specs.Reader.{readingOf};
 ghost use Rattle.monitor.specs.Answers.{done};
 ghost use Rattle.monitor.specs.Record.{newMonitor, afterSettings, settingsAnswer, afterCompletion, completionAnswer};
 ghost use Rattle.monitor.specs.Record.{afterElapsed, elapsedAnswer, afterClock, clockAnswer, afterPowerUp};
 ghost use Rattle.monitor.specs.Report.{afterPage, pageAnswer, afterSettingsBack, settingsBackAnswer};
 ghost use Rattle.latency_monitor.specs.Answers.{asRefusal, asCompletion, asElapsed};
-ghost use Rattle.latency_monitor.specs.Reading.{afterRead, readAnswer};
+ghost use Rattle.latency_monitor.specs.Reading.{readAnswer};
 use logpage::Reading;
 use monitor::Command;
 use monitor::CompletionAnswer;
@@ -128,7 +129,7 @@ pub extern "C" fn latency_monitor_settings_back(m: &Monitor, s: &mut [u8]) -> u8
 // A page of 512 bytes read back into its fields.
 #[no_mangle]
 pub extern "C" fn latency_monitor_read_page(fields: &mut Reading, page: &[u8]) -> u8
-    ensures next { λ _. ⌜ now (fields .exit) ≡ afterRead (now (fields .entry)) (now (page .entry)) ⌝ }
+    ensures next { λ _. ⌜ now (fields .exit) ≡ readingOf (now (page .entry)) ⌝ }
     ensures answer { λ r. ⌜ r ≡ asRefusal (readAnswer (now (page .entry))) ⌝ }
 {
     let o = reading::read_into(*fields, page);

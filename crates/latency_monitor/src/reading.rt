@@ -1,7 +1,8 @@
 // A page read back into fields that are lent.
 ghost use mathlib.Core.Path.{_≡_};
+ghost use Rattle.logpage.specs.Reader.{readingOf};
 ghost use Rattle.monitor.specs.Answers.{saysAnswer};
-ghost use Rattle.latency_monitor.specs.Reading.{afterRead, readAnswer};
+ghost use Rattle.latency_monitor.specs.Reading.{readAnswer};
 use logpage::Answer;
 use logpage::LogPage;
 use logpage::Reading;
@@ -12,22 +13,13 @@ pub struct ReadOutcome {
     pub answer: Answer,
 }
 
-// What the page shows; the old fields where it is turned away.
+// What the page shows, and where it is turned away what a new monitor's page does: nothing is left of the old fields.
 pub(crate) fn read_into(old: Reading, page: &[u8]) -> ReadOutcome
-    ensures next { λ r. ⌜ r .next ≡ afterRead old (now (page .entry)) ⌝ }
+    ensures next { λ r. ⌜ r .next ≡ readingOf (now (page .entry)) ⌝ }
     ensures answer { λ r. ⌜ saysAnswer (r .answer) ≡ readAnswer (now (page .entry)) ⌝ }
 {
     let read = LogPage::read(page);
+    let next = read.reading;
     let answer = read.answer;
-    match answer {
-        Answer::Refused(n) => {
-            let answer = Answer::Refused(n);
-            ReadOutcome { next: old, answer }
-        }
-        Answer::Done => {
-            let next = read.reading;
-            let answer = Answer::Done;
-            ReadOutcome { next, answer }
-        }
-    }
+    ReadOutcome { next, answer }
 }

@@ -1,7 +1,8 @@
 -- `latency_monitor_read_page`, by the walk of a function that stores what its rule hands back.
+use Rattle.logpage.specs.Reader.{readingOf}
 use Rattle.monitor.specs.Answers.{saysAnswer}
 use Rattle.latency_monitor.specs.Answers.{asRefusal}
-use Rattle.latency_monitor.specs.Reading.{afterRead, readAnswer}
+use Rattle.latency_monitor.specs.Reading.{readAnswer}
 use Rattle.latency_monitor.proofs.PlainData.{passed-bytes, once}
 use Rattle.latency_monitor.proofs.AnswerTypes.{read-outcome, refusal}
 use Rattle.latency_monitor.proofs.Parameters.{one}
@@ -20,7 +21,7 @@ pub latency-monitor-read-page-spec : {M : Type 1} → statement M
 unfolding code.routine
 latency-monitor-read-page-spec 𝓤 H 𝓜 𝓖 𝓡 =
     lends read-outcome refusal saysAnswer asRefusal #rule #numbers once (one _ passed-bytes)
-    (λ _ fields a. afterRead fields (a .0 .now)) (λ _ _ a. readAnswer (a .0 .now))
+    (λ _ _ a. readingOf (a .0 .now)) (λ _ _ a. readAnswer (a .0 .now))
     𝓤 H 𝓜 𝓖 𝓡 code.env #self (code.unfolded 𝓤 H 𝓜 𝓡)
     code.calls-latency-monitor·reading·read-into (rule.met 𝓤 H 𝓜 𝓖 𝓡)
     code.calls-latency-monitor·answers·refusal (numbers.met 𝓤 H 𝓜 𝓖 𝓡)

@@ -1,33 +1,27 @@
--- `read_into`: turned away, or read.
-use mathlib.Core.Path.{sym, ap, _∙_}
+-- `read_into`: what the reader hands back, and its answer as one of the monitor's.
+use mathlib.Core.Path.{_≡_, refl, _∙_}
 use borrow.Author.Needs.{needs}
 use Rattle.logpage.specs.Answers.{refusalIn}
-use Rattle.logpage.specs.Reader.{readingOf}
-use Rattle.latency_monitor.specs.Reading.{afterRead, readAnswer}
+use Rattle.logpage.specs.declared.answers.Answer.{Answer}
+use Rattle.logpage.specs.declared.answers.Answer.the-variants.{Done, Refused}
+use Rattle.monitor.specs.Answers.{done, unlessRefused, saysAnswer}
+use Rattle.latency_monitor.specs.Reading.{readAnswer}
 use Rattle.latency_monitor.proofs.reading.read_into.Statement.{statement}
 use Rattle.latency_monitor.proofs.reading.read_into.Tie as tie
+
+-- an answer says its number, or that the call was done
+as-said : (a : Answer) → saysAnswer a ≡ unlessRefused (refusalIn a) done
+as-said (Refused n) = refl
+as-said Done = refl
 
 read-requires : tie.Need-read-requires
 read-requires c κs = search needs
 
-enum-known-answer : tie.Need-enum-known-answer
-enum-known-answer c = search needs
-
-enum-told : tie.Need-enum-told
-enum-told c = search needs
-
 returns : tie.Need-returns
-unfolding afterRead readAnswer
+unfolding readAnswer
 returns c =
-    let row = sym (c .before .before .before .read .ensures .0) ∙ ap refusalIn (c .before .answer .given .1) in
-    (rw row, rw row)
-
-returns-2 : tie.Need-returns-2
-unfolding afterRead readAnswer readingOf
-returns-2 c =
-    let read = c .before .before .before .read in
-    let row = sym (read .ensures .0) ∙ ap refusalIn (c .before .enum-told .given .1) in
-    (read .ensures .1 ∙ rw row, rw row)
+    let read = c .before .read in
+    (read .ensures .1, as-said (read .result .answer) ∙ rw (read .ensures .0))
 
 pub read-into-spec : {M : Type 1} → statement M
-read-into-spec = tie.close (tie.spec read-requires enum-known-answer enum-told returns returns-2)
+read-into-spec = tie.close (tie.spec read-requires returns)
