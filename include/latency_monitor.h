@@ -7,14 +7,14 @@
  * handlers included, unless both take it as const. No two pointers of a call may overlap. Tools that open the pages of
  * drives need no record: they lend a reading, for which the same holds.
  *
- * A call that is turned away answers with its refusal number and leaves record, reading and buffer as they were. Any
- * number may be passed, and a buffer of any length, with its own length beside it. No pointer may be null.
+ * A call that is turned away answers with its refusal number and leaves record and buffer as they were. Any number may
+ * be passed, and a buffer of any length, with its own length beside it. No pointer may be null.
  *
  * The archive runs on x86-64, with the calling convention of System V:
  *
  *     cc -std=c11 -I include firmware.c liblatency_monitor.a
  *
- * It asks the firmware for memcpy and memset, and a call takes at most 1,152 bytes of stack beside what those take. It
+ * It asks the firmware for memcpy and memset, and a call takes at most 1,264 bytes of stack beside what those take. It
  * uses SSE2 registers and the red zone (128 bytes below the stack pointer), so it is not for code that must do without.
  *
  * Nothing in this header is of x86-64: it compiles where a bool is one byte and a uint64_t is aligned to eight, as on
@@ -190,7 +190,7 @@ uint8_t latency_monitor_settings_back(const struct latency_monitor *monitor, uin
 /*
  * Reads log page C3h of any drive. The reading's storage may be zeroed, as static storage is, or hold a reading. A page
  * is turned away by 13 if it is not 512 bytes, by 14 if its version or GUID is not the one that latency_monitor_page
- * writes, and by 15 if it breaks a rule of the layout; the reading is then left as it was. The rules:
+ * writes, and by 15 if it breaks a rule of the layout; the reading is then that of a new monitor's page. The rules:
  *
  *   - Bytes 2 to 9 (timer, timer threshold, thresholds) and 12 (minimum window) may hold anything.
  *   - Byte 0 (enabled) and the stamp units of the debug log are 0 or 1. Bits 12 to 15 of mode, trigger and the windows'

@@ -63,12 +63,13 @@ static void read_back(const uint8_t *page)
 
     expect(latency_monitor_read_page(&reading, page, LATENCY_MONITOR_PAGE_LENGTH) == LATENCY_MONITOR_ACCEPTED,
         "the page is read");
-    expect(latency_monitor_read_page(&reading, page, 511) == LATENCY_MONITOR_READ_LENGTH_WRONG,
-        "511 bytes are read as no page");
     expect(shown->settings.enabled && shown->settings.timer_threshold == 2, "the page shows the settings");
     expect(shown->active_window.counters[0] == 1 && shown->active_window.latencies[0] == 7, "the page shows the Read");
     expect(shown->static_window.stamps[0] == LATENCY_MONITOR_UNSET, "the static window is empty");
     expect(reading.debug_held && reading.debug_counter == 0, "the page shows the debug log");
+    expect(latency_monitor_read_page(&reading, page, 511) == LATENCY_MONITOR_READ_LENGTH_WRONG,
+        "511 bytes are read as no page");
+    expect(!reading.debug_held, "nothing is left of the page before");
 }
 
 /* 16 bytes a line, without the lines of zeros and without the version and the GUID. */

@@ -8,7 +8,7 @@ use latency_monitor::{
     Settings as Held, Window,
 };
 use reference::answers::Answer;
-use reference::facts::{clock, window_time, Facts, WindowFacts, NO_STAMP};
+use reference::facts::{clock, facts, window_time, Facts, WindowFacts, NO_STAMP};
 use reference::history::{Call, Settings, INCREMENT_MS, PAGE_LENGTH};
 use reference::page::page_bytes;
 use reference::reading;
@@ -35,33 +35,24 @@ pub fn call(monitor: &mut Monitor, call: &Call, due: Answer, facts: &Facts, salt
     Ok(())
 }
 
-/// Reads bytes into fields that are lent, and compares the answer, and the fields if the call does not leave them. Gives
-/// the answer's number.
+/// Reads bytes into fields that are lent, and compares the answer and the fields, which are a new monitor's if the bytes
+/// are turned away. Gives the answer's number.
 pub fn read(lent: &mut Reading, bytes: &[u8]) -> Result<u8, String> {
-    let before = *lent.as_bytes();
     let answer = lent.read(bytes).map_or_else(Refusal::number, |()| 0);
-    match reading::read_page(bytes) {
-        Ok(facts) => {
-            same("answer", answer, 0)?;
-            shown(lent, &facts)?;
-        }
-        Err(number) => {
-            same("answer", answer, number)?;
-            unchanged("reading", &before, lent.as_bytes())?;
-        }
-    }
+    let (number, due) = match reading::read_page(bytes) {
+        Ok(facts) => (0, facts),
+        Err(number) => (number, facts(&[])),
+    };
+    same("answer", answer, number)?;
+    shown(lent, &due)?;
     Ok(answer)
 }
 
 /// The record is byte for byte as it was.
 pub fn left(before: &[u8], monitor: &Monitor) -> Result<(), String> {
-    unchanged("record", before, monitor.as_bytes())
-}
-
-fn unchanged(what: &str, before: &[u8], after: &[u8]) -> Result<(), String> {
-    match difference(before, after) {
+    match difference(before, monitor.as_bytes()) {
         None => Ok(()),
-        Some(place) => Err(format!("byte {place} of the {what} was changed")),
+        Some(place) => Err(format!("byte {place} of the record was changed")),
     }
 }
 

@@ -105,15 +105,13 @@ fn with(mut page: [u8; PAGE_LENGTH], place: usize, bytes: &[u8]) -> [u8; PAGE_LE
     page
 }
 
-/// The bytes are turned away, and leave a reading of another page as it was.
+/// The bytes are turned away, and nothing is left of a reading of another page.
 fn assert_turned_away(bytes: &[u8], due: Refusal, what: &str) {
     assert_eq!(read_page(bytes).err(), Some(due), "{what}");
-    for monitor in [Monitor::new(), monitor()] {
-        let mut other = read_page(&with(page(&monitor), 2, &[0xFF; 8])).unwrap();
-        let before = *other.as_bytes();
-        assert_eq!(other.read(bytes), Err(due), "{what}");
-        assert_eq!(*other.as_bytes(), before, "{what}");
-    }
+    let mut reading = read_page(&with(page(&monitor()), 2, &[0xFF; 8])).unwrap();
+    assert_eq!(reading.read(bytes), Err(due), "{what}");
+    assert_shows(&reading, &Monitor::new());
+    assert_eq!((reading.debug_held, reading.debug_counter), (false, 0), "{what}");
 }
 
 #[test]
