@@ -151,12 +151,12 @@ isBelowA x = not (reachesA (inForce (x .before) .thresholds) (x .command))
 unfoldable pub ofKind : WindowChoice → Past → ℕ → List Completed
 ofKind w past k = filter (kindIn w past k) (sinceEnabled past)
 
-unfoldable pub belowA : WindowChoice → Past → ℕ → List Completed
-belowA w past k = filter (λ x. kindIn w past k x && isBelowA x) (sinceEnabled past)
+unfoldable pub ofKindBelowA : WindowChoice → Past → ℕ → List Completed
+ofKindBelowA w past k = filter (λ x. kindIn w past k x && isBelowA x) (sinceEnabled past)
 
 -- 02, Ticket 2: the counts below threshold A, by kind
 unfoldable pub belowACounts : WindowChoice → Past → List ℕ
-belowACounts w past = from 0 3 (λ k. countOf (belowA w past k))
+belowACounts w past = from 0 3 (λ k. countOf (ofKindBelowA w past k))
 
 -- whether x loads the stamp again after a load: in mode largest, with more ms, and with the minimum window over. The
 -- first completion in a window always loads it

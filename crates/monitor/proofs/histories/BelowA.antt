@@ -16,7 +16,7 @@ use Rattle.monitor.specs.Commands.{kindOf, reachesA, counterOf}
 use Rattle.monitor.specs.Claims.{recordOf, windowIn, BelowAShowsFacts, fiveCounts, FiveCountsAddUp}
 use Rattle.monitor.specs.Facts.{inForce, enablingIn, sum, Completed, completedAt, sinceEnabled, Counted, counted}
 use Rattle.monitor.specs.Facts.{countedSince, filter, filterMap, isIn, activeFor, staticFor, active, static, countOf}
-use Rattle.monitor.specs.Facts.{kindIn, isBelowA, ofKind, belowA, belowACounts}
+use Rattle.monitor.specs.Facts.{kindIn, isBelowA, ofKind, ofKindBelowA, belowACounts}
 use Rattle.monitor.specs.History.{Effect, completionIn, History, Past, Every, pastOf, play, found, onlyIf, andThen}
 use Rattle.monitor.specs.Report.{countsBelowA}
 use Rattle.monitor.specs.declared.commands.Command.{Command}
@@ -193,15 +193,15 @@ abbrev slow-in : WindowChoice → Past → ℕ → List Counted
 slow-in w past n = filter (λ y. isIn w past (y .before) && eqb (y .counter) n) (countedSince past)
 
 abbrev five : WindowChoice → Past → ℕ → List ℕ
-five w past k = countOf (belowA w past k) ∷ from 0 4 (λ b. countOf (slow-in w past (3 * b + k)))
+five w past k = countOf (ofKindBelowA w past k) ∷ from 0 4 (λ b. countOf (slow-in w past (3 * b + k)))
 
 described-five : (past : Past) (w : WindowChoice) (k : ℕ) → k < 3 → fiveCounts w (recordOf past) k ≡ five w past k
 unfolding recordOf belowACounts active static
 described-five past w k few = λ i. by w i ∷ from-same 0 4 _ _ (slow-at w) i
   where
-    by : (v : WindowChoice) → getD (countsBelowA v (recordOf past)) k 0 ≡ countOf (belowA v past k)
-    by Active = entry 3 (λ j. countOf (belowA Active past j)) k few
-    by Static = entry 3 (λ j. countOf (belowA Static past j)) k few
+    by : (v : WindowChoice) → getD (countsBelowA v (recordOf past)) k 0 ≡ countOf (ofKindBelowA v past k)
+    by Active = entry 3 (λ j. countOf (ofKindBelowA Active past j)) k few
+    by Static = entry 3 (λ j. countOf (ofKindBelowA Static past j)) k few
 
     slow-at :
         (v : WindowChoice) (b : ℕ) →
@@ -217,7 +217,7 @@ module _ (past : Past) (w : WindowChoice) (k : ℕ) (few : k < 3) where
   Sums counts = All (λ count. count < 4294967295) counts → sum counts ≡ length (ofKind w past k)
 
   five-add-up : Sums (five w past k)
-  unfolding sum countOf from ofKind belowA
+  unfolding sum countOf from ofKind ofKindBelowA
   five-add-up top =
       omega (
         arith,

@@ -18,7 +18,7 @@ use Rattle.monitor.specs.Counting.{bit, onceMoreAt, countedBelowA, loads
 use Rattle.monitor.specs.Claims.{loadedOf, recordOf}
 use Rattle.monitor.specs.Facts.{inForce, clockAt, hostSetAt, timerThreshold, enabledTime, windowAt, timerAt}
 use Rattle.monitor.specs.Facts.{Completed, completedAt, sinceEnabled, Counted, counted, countedAt, countedSince}
-use Rattle.monitor.specs.Facts.{filter, filterMap, activeFor, staticFor, active, static, countOf, belowA, belowACounts}
+use Rattle.monitor.specs.Facts.{filter, filterMap, activeFor, staticFor, active, static, countOf, ofKindBelowA, belowACounts}
 use Rattle.monitor.specs.Facts.{loadsAfter, orLoad, lastLoad, stampOf, latencyOf, windowFrom}
 use Rattle.monitor.specs.Facts.{discardIn, triggered, orEarliest, earliest, logOf, debugAt}
 use Rattle.monitor.specs.History.{completed, Past, found, onlyIf, andThen, latest, since}
@@ -176,8 +176,8 @@ module _ (past : Past) (c : Command) (kind : ℕ) where
   fast-finished k = filter (fast-preceding (windowAt past) k) (here-completed ∷ sinceEnabled past)
 
   -- it is not in the static window
-  finished-before : (k : ℕ) → belowA Static past k ≡ fast-finished k
-  unfolding filter belowA
+  finished-before : (k : ℕ) → ofKindBelowA Static past k ≡ fast-finished k
+  unfolding filter ofKindBelowA
   finished-before k = rw (ne-eqb (windowAt past + 1) (windowAt past) (λ e. omega arith))
 
   static-kept : belowACounts Static past ≡ from 0 3 (λ k. countOf (fast-finished k))
@@ -192,33 +192,33 @@ module _ (past : Past) (c : Command) (kind : ℕ) where
         fast-within (windowAt past) k here-completed ≡ (b && not reached)
     here-passes k b q = rw (eq-eqb (windowAt past) (windowAt past) refl, q, e)
 
-    other-kind : (k : ℕ) → (k ≡ kind → ⊥) → belowA Active past k ≡ fast-joined k
-    unfolding filter belowA
+    other-kind : (k : ℕ) → (k ≡ kind → ⊥) → ofKindBelowA Active past k ≡ fast-joined k
+    unfolding filter ofKindBelowA
     other-kind k other = rw (here-passes k false (ne-eqb kind k (λ q. other (sym q))))
 
   slow-kept :
       reachesA (inForce past .thresholds) c ≡ true →
       belowACounts Active past ≡ from 0 3 (λ k. countOf (fast-joined k))
-  unfolding belowACounts belowA filter
+  unfolding belowACounts ofKindBelowA filter
   slow-kept reached = λ i. from 0 3 (λ k. countOf (by k (eqb kind k) refl i))
     where
       none-pass : (b : Bool) → (b && false) ≡ false
       none-pass true = refl
       none-pass false = refl
 
-      by : (k : ℕ) (b : Bool) → eqb kind k ≡ b → belowA Active past k ≡ fast-joined k
+      by : (k : ℕ) (b : Bool) → eqb kind k ≡ b → ofKindBelowA Active past k ≡ fast-joined k
       by k b q = rw (here-passes true reached k b q, none-pass b)
 
   fast-more :
       kind < 3 →
       reachesA (inForce past .thresholds) c ≡ false →
       onceMoreAt (belowACounts Active past) kind ≡ from 0 3 (λ k. countOf (fast-joined k))
-  unfolding belowACounts belowA filter
+  unfolding belowACounts ofKindBelowA filter
   fast-more few below =
-      counts-stored 3 (belowA Active past) fast-joined kind here-completed few this
+      counts-stored 3 (ofKindBelowA Active past) fast-joined kind here-completed few this
       (other-kind false below)
     where
-      this : fast-joined kind ≡ here-completed ∷ belowA Active past kind
+      this : fast-joined kind ≡ here-completed ∷ ofKindBelowA Active past kind
       this = rw (here-passes false below kind true (eq-eqb kind kind refl))
 
 -- the facts after a completion, by what it is if it is enabled and of a kind
@@ -232,7 +232,7 @@ after-it past o =
 facts-after :
     (past : Past) (c : Command) →
     recordOf (completed c ∷ past) ≡ after-it past (completedAt (completed c) past)
-unfolding recordOf inForce clockAt hostSetAt timerAt windowAt enabledTime timerThreshold active static belowACounts belowA debugAt since latest
+unfolding recordOf inForce clockAt hostSetAt timerAt windowAt enabledTime timerThreshold active static belowACounts ofKindBelowA debugAt since latest
 facts-after past c = refl
 
 -- a completion of no kind, or while disabled
@@ -241,7 +241,7 @@ uncounted-step :
     counterOf (inForce past) c ≡ none →
     belowAOf (inForce past) c ≡ none →
     afterCompletion (recordOf past) c ≡ after-it past none
-unfolding recordOf active static belowACounts belowA debugAt
+unfolding recordOf active static belowACounts ofKindBelowA debugAt
 uncounted-step past c e none-below =
     sym (not-counted (recordOf past) c (belowACounts Active past) e (rw none-below) .0)
 

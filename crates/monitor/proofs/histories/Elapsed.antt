@@ -16,7 +16,7 @@ use Rattle.monitor.specs.Claims.{loadedOf, recordOf}
 use Rattle.monitor.specs.Facts.{inForce, sum, clockAt, hostSetAt, timerThreshold, enabledTime, windowAt, timerAt}
 use Rattle.monitor.specs.Facts.{Counted, countedSince, sinceEnabled, filter, activeFor, active, static}
 use Rattle.monitor.specs.Facts.{countOf, lastLoad, stampOf, latencyOf, unitsOf, windowFrom, debugAt}
-use Rattle.monitor.specs.Facts.{belowA, belowACounts}
+use Rattle.monitor.specs.Facts.{ofKindBelowA, belowACounts}
 use Rattle.monitor.specs.History.{passed, Past, latest, since}
 use Rattle.monitor.specs.Answers.{ended}
 use Rattle.monitor.specs.Record.{noLoads, noneBelowA, afterElapsed, elapsedAnswer}
@@ -49,7 +49,7 @@ unfolding clockAt latest since sum
 clock-after past ms = omega arith
 
 facts-after : (past : Past) (ms : ℕ) → recordOf (passed ms ∷ past) ≡ after-time past ms (enabledTime (passed ms ∷ past))
-unfolding recordOf inForce hostSetAt timerAt windowAt timerThreshold active static belowACounts belowA debugAt latest since
+unfolding recordOf inForce hostSetAt timerAt windowAt timerThreshold active static belowACounts ofKindBelowA debugAt latest since
 facts-after past ms =
     ap (λ n. described (inForce past) (timerAt (passed ms ∷ past)) (hostSetAt past)
     (enabledTime (passed ms ∷ past) % 300000) n (debugAt past) (windowAt (passed ms ∷ past)) (sinceEnabled past))
@@ -109,8 +109,8 @@ fast-handed-on :
     (past : Past) →
     Good past →
     (k : ℕ) →
-    belowA Active past k ≡ filter (fast-preceding (suc (windowAt past)) k) (sinceEnabled past)
-unfolding belowA
+    ofKindBelowA Active past k ≡ filter (fast-preceding (suc (windowAt past)) k) (sinceEnabled past)
+unfolding ofKindBelowA
 fast-handed-on past g k =
     those-same (fast-within (windowAt past) k) (FineAt past) (fast-preceding (suc (windowAt past)) k)
     (λ x h. rw (add-one (windowAt (x .before)), eqb·suc-suc (windowAt (x .before)) (windowAt past)))
@@ -171,7 +171,7 @@ module _ (past : Past) (g : Good past) (ms : ℕ) (fits : ms ≤ 300000) where
   next-window u e = sym (lt-ltb (windowAt past) (u / span past) (omega (arith, e)))
 
   off : inForce past .enabled ≡ false → Comes t
-  unfolding recordOf timerAt windowAt active static belowACounts belowA
+  unfolding recordOf timerAt windowAt active static belowACounts ofKindBelowA
   off e =
       comes t (tick (timerAt past) (t % 300000) false) false (rw e (tick-off _ (timerAt past) (t % 300000) ms)) refl
       (same-window t refl) refl
@@ -181,7 +181,7 @@ module _ (past : Past) (g : Good past) (ms : ℕ) (fits : ms ≤ 300000) where
     positive = enabled-positive past g on
 
     few : t % 300000 + ms < 300000 → Comes (t + ms)
-    unfolding recordOf timerAt windowAt active static belowACounts belowA
+    unfolding recordOf timerAt windowAt active static belowACounts ofKindBelowA
     few h =
         comes (t + ms) (tick (timerAt past) (t % 300000 + ms) false) false
         (rw on (tick-few _ (timerAt past) (t % 300000) ms h)) refl
@@ -190,7 +190,7 @@ module _ (past : Past) (g : Good past) (ms : ℕ) (fits : ms ≤ 300000) where
 
     module _ (many : 300000 ≤ t % 300000 + ms) where
       more : timerAt past + 1 < p → Comes (t + ms)
-      unfolding recordOf timerAt windowAt active static belowACounts belowA
+      unfolding recordOf timerAt windowAt active static belowACounts ofKindBelowA
       more h =
           comes (t + ms) (tick (timerAt past + 1) (t % 300000 + ms - 300000) false) false
           (rw (on, enabled-threshold past on) (tick-more p (timerAt past) (t % 300000) ms many h)) refl

@@ -14,7 +14,7 @@ use Rattle.monitor.specs.Answers.{refused, ended, unlessRefused}
 use Rattle.monitor.specs.Claims.{recordOf, PlayedAsFacts, WindowEnds}
 use Rattle.monitor.specs.Facts.{inForce, sum, clockAt, hostSetAt, timerThreshold, enabledTime, windowAt, timerAt}
 use Rattle.monitor.specs.Facts.{Completed, sinceEnabled, countedAt, filter, filterMap, active, static, countOf}
-use Rattle.monitor.specs.Facts.{lastLoad, discardIn, triggered, earliest, logOf, debugAt, belowA, belowACounts}
+use Rattle.monitor.specs.Facts.{lastLoad, discardIn, triggered, earliest, logOf, debugAt, ofKindBelowA, belowACounts}
 use Rattle.monitor.specs.History as calls
 use Rattle.monitor.specs.History.{Call, settings, completion, elapsed, clock, powerUp, page, settingsBack}
 use Rattle.monitor.specs.History.{History, after, playFrom, Effect, configured, clockSet, poweredUp, nothing}
@@ -76,7 +76,7 @@ module _ (past : Past) (s : List ℕ) where
       recordOf (configured s ∷ past) ≡
       of-these (enabledTime (configured s ∷ past)) (timerThreshold (configured s ∷ past))
       (sinceEnabled (configured s ∷ past))
-  unfolding recordOf inForce clockAt hostSetAt timerAt windowAt active static belowACounts belowA latest since
+  unfolding recordOf inForce clockAt hostSetAt timerAt windowAt active static belowACounts ofKindBelowA latest since
   facts-after = rw debug-after
 
   emptied-or-kept :
@@ -84,7 +84,7 @@ module _ (past : Past) (s : List ℕ) where
       reset (recordOf past) (decoded s) (cond (eqb (discard s) 1) noDebugLog (debugAt past)) b ≡
       of-these (cond b 0 (enabledTime past)) (cond b (decoded s .«timer_threshold») (timerThreshold past))
       (cond b [] (sinceEnabled past))
-  unfolding recordOf timerAt windowAt active static belowACounts belowA emptyWindow filter filterMap lastLoad countOf from
+  unfolding recordOf timerAt windowAt active static belowACounts ofKindBelowA emptyWindow filter filterMap lastLoad countOf from
   emptied-or-kept true = rw (zero-div (300000 * decoded s .«timer_threshold»), zero-mul (decoded s .«timer_threshold»))
   emptied-or-kept false = refl
 
@@ -102,7 +102,7 @@ clock-step :
     (past : Past) (value : ℕ) →
     value ≤ 281474976710655 →
     afterClock (recordOf past) value ≡ recordOf (clockSet value ∷ past)
-unfolding afterClock clockRefusal recordOf inForce clockAt hostSetAt timerAt windowAt enabledTime timerThreshold active static belowACounts belowA debugAt latest since sum
+unfolding afterClock clockRefusal recordOf inForce clockAt hostSetAt timerAt windowAt enabledTime timerThreshold active static belowACounts ofKindBelowA debugAt latest since sum
 clock-step past value h =
     let e : value ≡ min (value + 0) 281474976710655 = omega arith in
     rw (le-ltb 281474976710655 value h)
@@ -110,15 +110,15 @@ clock-step past value h =
     (windowAt past) (sinceEnabled past)) e)
 
 power-up-step : (past : Past) → afterPowerUp (recordOf past) ≡ recordOf (poweredUp ∷ past)
-unfolding afterPowerUp recordOf inForce clockAt hostSetAt timerAt windowAt enabledTime timerThreshold active static belowACounts belowA debugAt latest since sum
+unfolding afterPowerUp recordOf inForce clockAt hostSetAt timerAt windowAt enabledTime timerThreshold active static belowACounts ofKindBelowA debugAt latest since sum
 power-up-step past = refl
 
 nothing-step : (past : Past) → recordOf past ≡ recordOf (nothing ∷ past)
-unfolding recordOf inForce clockAt hostSetAt timerAt windowAt enabledTime timerThreshold active static belowACounts belowA debugAt latest since sum
+unfolding recordOf inForce clockAt hostSetAt timerAt windowAt enabledTime timerThreshold active static belowACounts ofKindBelowA debugAt latest since sum
 nothing-step past = refl
 
 new-step : newMonitor ≡ recordOf []
-unfolding newMonitor recordOf inForce clockAt hostSetAt timerAt windowAt enabledTime timerThreshold active static belowACounts belowA debugAt latest since sum emptyWindow filter filterMap lastLoad countOf from earliest
+unfolding newMonitor recordOf inForce clockAt hostSetAt timerAt windowAt enabledTime timerThreshold active static belowACounts ofKindBelowA debugAt latest since sum emptyWindow filter filterMap lastLoad countOf from earliest
 new-step = refl
 
 -- a refused call
