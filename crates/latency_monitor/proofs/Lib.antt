@@ -1,6 +1,7 @@
 pub mod PlainData
 pub mod AnswerTypes
 pub mod Locals
+pub mod Rules
 pub mod Walks
 pub mod Stores
 pub mod Parameters
