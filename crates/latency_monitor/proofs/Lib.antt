@@ -6,4 +6,5 @@ pub mod Walks
 pub mod Stores
 pub mod Parameters
 pub mod Lent
+pub mod Shown
 pub mod Read
