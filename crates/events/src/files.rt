@@ -9,7 +9,6 @@ use crate::records;
 use monitor::Answer;
 use monitor::ElapsedAnswer;
 use monitor::Monitor;
-use monitor::NOT_COUNTED;
 
 // Why a run stopped: at a refused record, with its number from 0 and the refusal, or at the end.
 pub enum Halt {
@@ -44,15 +43,9 @@ pub fn run(m: Monitor, s: &[u8]) -> Stop
         let r = &s[from..from + records::RECORD];
         if records::is_completion(r) {
             let c = records::command(r);
-            let settings = monitor.settings;
-            // Most completions count for nothing, which leaves the monitor as it is: they are spared the call.
-            if c.counter(settings) == NOT_COUNTED {
-                i += 1;
-            } else {
-                let o = monitor.completion(c);
-                monitor = o.next;
-                i += 1;
-            }
+            let o = monitor.completion(c);
+            monitor = o.next;
+            i += 1;
         } else if records::is_elapsed(r) {
             let o = records::elapsed(monitor, r);
             monitor = o.next;

@@ -18,17 +18,18 @@ use types.Run.{OneOf}
 use Rattle.endian.specs.Bytes.{anySet}
 use Rattle.endian.specs.Loads.{number}
 use Rattle.endian.proofs.Numbers.{below, both-clear, first-set}
-use Rattle.monitor.proofs.Counters.{no-counter}
 use Rattle.monitor.proofs.answers.ElapsedAnswer.{the-type}
 use Rattle.monitor.specs.declared.answers.ElapsedAnswer.{ElapsedAnswer}
 use Rattle.monitor.specs.declared.answers.ElapsedAnswer.the-variants as time
 use Rattle.monitor.specs.declared.commands.Command.{Command}
 use Rattle.monitor.specs.declared.record.Monitor.{Monitor}
 use Rattle.monitor.specs.Answers.{CallAnswer, refused, done, notCounted, counted, ended, unlessRefused, saysElapsed}
-use Rattle.monitor.specs.Commands.{counterNumber, counterOf}
+use Rattle.monitor.specs.Answers as answers
+use Rattle.monitor.specs.Commands.{counterOf}
+use Rattle.monitor.specs.History as calls
 use Rattle.monitor.specs.History.{Call, settings, completion, elapsed, clock, powerUp, page, settingsBack}
 use Rattle.monitor.specs.History.{after, answerOf, playFrom, refusalOf, found}
-use Rattle.monitor.specs.Record.{afterCompletion, settingsAnswer, completionAnswer, elapsedAnswer, clockAnswer}
+use Rattle.monitor.specs.Record.{settingsAnswer, completionAnswer, elapsedAnswer, clockAnswer}
 use Rattle.monitor.specs.Refusals.{settingsRefusal, elapsedRefusal, clockRefusal, pageRefusal, settingsBackRefusal}
 use Rattle.monitor.specs.Report.{pageAnswer, settingsBackAnswer}
 use Rattle.events.specs.Records.{recordKind, part, unnamed, settingsBytes, commandOf, elapsedOf, clockOf, callOfKind}
@@ -223,16 +224,6 @@ pub completion-accepted : (r : List ℕ) (c : Command) → callOf r ≡ some (co
 unfolding recordRefusal
 completion-accepted r c e = rw e
 
--- a completion that counts for nothing leaves the monitor as it was
-pub passed-over :
-    (m : Monitor) (r : List ℕ) (c : Command) (n : ℕ) →
-    callOf r ≡ some (completion c) →
-    n ≡ counterNumber (counterOf (m .settings) c) →
-    n ≡ 12 →
-    m ≡ afterRecord m r
-unfolding afterRecord playFrom afterCompletion
-passed-over m r c n e number twelve = rw (e, no-counter (m .settings) c n number (omega arith))
-
 -- the refusal that an answer names
 abbrev pub refusalIn : CallAnswer → Option ℕ
 refusalIn (refused n) = some n
@@ -240,6 +231,7 @@ refusalIn done = none
 refusalIn notCounted = none
 refusalIn (counted n loaded debug) = none
 refusalIn (ended e) = none
+refusalIn (answers.belowA counts) = none
 
 -- a call's answer names the row that turns it away
 named : (m : Monitor) (c : Call) → refusalIn (answerOf m c) ≡ refusalOf c
@@ -262,6 +254,7 @@ named m c = by c
     by powerUp = refl
     by (page n) = unless (pageRefusal n) done refl
     by (settingsBack n) = unless (settingsBackRefusal n) done refl
+    by (calls.belowA w) = refl
 
 -- answers to elapsed time other than a refusal name none
 pub let-through : (a : ElapsedAnswer) → OneOf (1 ∷ 2 ∷ []) (tagOf the-type a) → refusalIn (saysElapsed a) ≡ none
