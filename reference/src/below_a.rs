@@ -36,7 +36,7 @@ fn edges() -> Vec<Events> {
     files.extend(KINDS.map(|kind| start(base()).completion(kind, BELOW)));
     let all = (0..=255).fold(start(base()), |f, opcode| f.completion(opcode, BELOW));
     files.push(each_kind(all, 0));
-    // More than a byte counts.
+    // A count beyond one byte.
     files.push((0..260).fold(start(base()), |f, _| f.completion(WRITE, BELOW)));
     // Mode, minimum window and trigger have no part in it.
     let settings = Settings { mode: LARGEST, minimum_window: 255, debug_trigger: 0x0FFF, ..base() };

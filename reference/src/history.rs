@@ -81,7 +81,7 @@ pub enum Call {
     SettingsBack(usize),
     /// The counts below A of a window.
     BelowA(Window),
-    /// For tests: the active window's counter was counted up to this value here. From 12 on they are the counts below A.
+    /// For tests: the active window's counter was counted up to this value here. 12 to 14 are its counts below A.
     Preset {
         counter: usize,
         value: u32,

@@ -8,9 +8,9 @@
 //! An event vector, played on a new monitor, is
 //! - the length of an event file (u32, at most 131,072) and its bytes, also 1 to 15 after the last whole record;
 //! - the number of presets (u8), and for each a counter number (u8, 0 to 14), a value (u32) and a record number (u32):
-//!   just before that record is read, the counter of the active window is set to the value, where 12 to 14 are the counts
-//!   below A of Read, Write and Deallocate. Records count from 0, the record is a whole one of the file, presets stand in
-//!   order of it, the counter has been counted in the window, and the monitor is enabled;
+//!   just before that record is read, the counter of the active window is set to the value, where 12 to 14 are the
+//!   counts below A of Read, Write and Deallocate. Records count from 0, the record is a whole one of the file, presets
+//!   stand in order of it, the counter has been counted in the window, and the monitor is enabled;
 //! - the number of answers (u16), and each of them (u16): one for each whole record, and one for the end of the file.
 //!   An answer is 8 x N if refused by N, which is 12 at the end with bytes left over; 1 'done', also at the end with
 //!   none; 2 'not counted'; 3 if counted, with 8 more if the stamp was loaded, 16 more if a debug log was taken, and 32
