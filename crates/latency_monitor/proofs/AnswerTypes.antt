@@ -20,6 +20,8 @@ use Rattle.latency_monitor.proofs.answers.PlainCompletionAnswer as CR
 use Rattle.latency_monitor.proofs.answers.PlainCompletionAnswer.Laws as CR′
 use Rattle.latency_monitor.proofs.answers.PlainElapsedAnswer as ER
 use Rattle.latency_monitor.proofs.answers.PlainElapsedAnswer.Laws as ER′
+use Rattle.latency_monitor.proofs.answers.PlainBelowA as BR
+use Rattle.latency_monitor.proofs.answers.PlainBelowA.Laws as BR′
 use Rattle.logpage.proofs.reader.Reading as Rd
 use Rattle.logpage.proofs.reader.Reading.Laws as Rd′
 use Rattle.latency_monitor.proofs.reading.ReadOutcome as RO
@@ -68,6 +70,9 @@ plain-completion-answer = plain-struct CR.the-type CR′.the-laws CR′.the-plai
 
 abbrev pub plain-elapsed-answer : Plain ER.the-row
 plain-elapsed-answer = plain-struct ER.the-type ER′.the-laws ER′.the-plain ER′.the-copy
+
+abbrev pub plain-below-a : Plain BR.the-row
+plain-below-a = plain-struct BR.the-type BR′.the-laws BR′.the-plain BR′.the-copy
 
 -- the fields of a page, which `read_page` fills
 abbrev pub fields : Plain Rd.the-row

@@ -8,15 +8,17 @@ use mir.Syntax.{Sym, Ty, Tys, Width, w8, named, imm, tyInt, tyRef, tyStruct, tyE
 use mir.Val.{Val, Vals, ofList, vint, vstruct, vcons, vnil, hasTy, WT}
 use lib.Dec.{T as Holds}
 use lib.ListN.{length}
+use base.Logic.{via, emp∗, monoL}
 use base.Fml.{ftrue}
 use prog.Wp.{Heap}
-use ghost.Atoms.{Atoms}
+use ghost.Atoms.{Atoms, sem}
 use types.Kit.{Given}
 use types.Match.{live}
+use contract.Monad.{fact-use}
 use contract.Lifetimes.{Lfts}
 use denote.RattleType.{RattleType}
 use denote.Exit.{yes, Exit, unchanged, Last, left}
-use denote.Laws.{Is, Tells, Makes, valss}
+use denote.Laws.{Is, Tells, Makes, Copy, shows, valss}
 use denote.Builtin.{u8}
 use denote.Slice.{ShrSlice, sliceTy, sliceVal, shr-slice-tells, shr-slice-lawful}
 use denote.Plain.{UInt, uint-tells, uint-makes, uint-lawful}
@@ -38,6 +40,16 @@ pub record Plain (X : RattleType) : Type 2 where
       → (x : X .Denot) (v : Val) → Is X x (v ∷ []) → Holds (hasTy mir v) × WT v
   pub makes : {M : Type 1} (𝓤 : URA M) (H : Heap 𝓤) (A : Atoms 𝓤) → Given 𝓤 H A → Makes 𝓤 H A X (Is X)
   pub still : X .exit yes ≡ unchanged
+
+-- what it owns can be had twice
+pub twice : {X : RattleType} → Plain X → {M : Type 1} (𝓤 : URA M) (H : Heap 𝓤) (A : Atoms 𝓤) → Given 𝓤 H A
+    → Copy 𝓤 H A X
+twice {X} PX 𝓤 H A W = record {
+  twice = λ x vs.
+      let own = sem 𝓤 H A (X .own x vs) in
+      fact-use 𝓤 (Is X x vs) (shows 𝓤 H A X x vs) (λ is.
+      via 𝓤 _ (emp∗ 𝓤 own) (monoL 𝓤 own (PX .makes 𝓤 H A W x vs is)));
+}
 
 pub spelled : {X : RattleType} (PX : Plain X) (x : X .Denot) (v : Val) → Is X x (v ∷ []) → Is X x (PX .val x ∷ [])
 spelled {X} PX x v is = subst (Is X x) (PX .tells x (v ∷ []) is) is

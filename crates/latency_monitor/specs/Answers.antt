@@ -4,6 +4,8 @@ use Prim.Native.Nat.{ℕ}
 use Rattle.monitor.specs.Answers.{CallAnswer, refused, done, notCounted, counted, ended}
 use Rattle.latency_monitor.specs.declared.answers.PlainCompletionAnswer.{PlainCompletionAnswer}
 use Rattle.latency_monitor.specs.declared.answers.PlainElapsedAnswer.{PlainElapsedAnswer}
+use Rattle.latency_monitor.specs.declared.answers.PlainBelowA.{PlainBelowA}
+use Rattle.monitor.specs.declared.record.Monitor.{Monitor}
 
 -- 01, Where a call is turned away: the refusal number, or 0 if the call was accepted
 abbrev pub asRefusal : CallAnswer → ℕ
@@ -37,3 +39,10 @@ asCompletion notCounted = noCounter
 asCompletion (counted n loaded debug) =
     record { counter = n; counted = true; loaded = loaded; debug = debug }
 asCompletion (ended b) = noCounter
+
+-- stand-ins for what the monitor's rule counts below threshold A
+abbrev pub standInActive : Monitor → PlainBelowA
+standInActive m = record { read = m .partial; write = m .settings .«timer_threshold»; deallocate = 0 }
+
+abbrev pub standInStatic : Monitor → PlainBelowA
+standInStatic m = record { read = 0; write = m .partial; deallocate = m .timer }

@@ -2,9 +2,11 @@
 ghost use mathlib.Core.Path.{_≡_};
 ghost use Rattle.monitor.specs.Answers.{saysAnswer, saysCompletion, saysElapsed};
 ghost use Rattle.latency_monitor.specs.Answers.{asRefusal, asCompletion, asElapsed};
+ghost use Rattle.latency_monitor.specs.Answers.{standInActive, standInStatic};
 use monitor::Answer;
 use monitor::CompletionAnswer;
 use monitor::ElapsedAnswer;
+use monitor::Monitor;
 
 // The refusal number of an accepted call.
 const ACCEPTED: u8 = 0;
@@ -28,6 +30,14 @@ pub struct PlainElapsedAnswer {
     pub refusal: u8,
     // Whether the active window ended, and is the static one now.
     pub ended: bool,
+}
+
+// How many commands of each kind were below threshold A.
+#[repr(C)]
+pub struct PlainBelowA {
+    pub read: u32,
+    pub write: u32,
+    pub deallocate: u32,
 }
 
 // The number that turned a call away, 0 if accepted.
@@ -81,5 +91,26 @@ pub(crate) fn elapsed(a: ElapsedAnswer) -> PlainElapsedAnswer
             refusal: ACCEPTED,
             ended: true,
         },
+    }
+}
+
+// Stand-ins for the monitor's rule, in the active and in the static window.
+pub(crate) fn active_below_a(m: Monitor) -> PlainBelowA
+    ensures { λ r. ⌜ r ≡ standInActive m ⌝ }
+{
+    PlainBelowA {
+        read: m.partial,
+        write: m.settings.timer_threshold as u32,
+        deallocate: 0,
+    }
+}
+
+pub(crate) fn static_below_a(m: Monitor) -> PlainBelowA
+    ensures { λ r. ⌜ r ≡ standInStatic m ⌝ }
+{
+    PlainBelowA {
+        read: 0,
+        write: m.partial,
+        deallocate: m.timer as u32,
     }
 }

@@ -5,6 +5,7 @@
 mod answers;
 mod reading;
 
+pub use answers::PlainBelowA;
 pub use answers::PlainCompletionAnswer;
 pub use answers::PlainElapsedAnswer;
 ghost use mathlib.Core.Path.{_≡_};
@@ -15,6 +16,7 @@ ghost use Rattle.monitor.specs.Record.{newMonitor, afterSettings, settingsAnswe
 ghost use Rattle.monitor.specs.Record.{afterElapsed, elapsedAnswer, afterClock, clockAnswer, afterPowerUp};
 ghost use Rattle.monitor.specs.Report.{afterPage, pageAnswer, afterSettingsBack, settingsBackAnswer};
 ghost use Rattle.latency_monitor.specs.Answers.{asRefusal, asCompletion, asElapsed};
+ghost use Rattle.latency_monitor.specs.Answers.{standInActive, standInStatic};
 ghost use Rattle.latency_monitor.specs.Reading.{readAnswer};
 use logpage::Reading;
 use monitor::Command;
@@ -135,4 +137,20 @@ pub extern "C" fn latency_monitor_read_page(fields: &mut Reading, page: &[u8]) -
     let o = reading::read_into(*fields, page);
     *fields = o.next;
     answers::refusal(o.answer)
+}
+
+// Completions below threshold A in the active window.
+#[no_mangle]
+pub extern "C" fn latency_monitor_active_below_a(m: &Monitor) -> PlainBelowA
+    ensures { λ r. ⌜ r ≡ standInActive (now (m .entry)) ⌝ }
+{
+    answers::active_below_a(*m)
+}
+
+// The same in the static window.
+#[no_mangle]
+pub extern "C" fn latency_monitor_static_below_a(m: &Monitor) -> PlainBelowA
+    ensures { λ r. ⌜ r ≡ standInStatic (now (m .entry)) ⌝ }
+{
+    answers::static_below_a(*m)
 }

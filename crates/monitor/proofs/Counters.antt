@@ -1,12 +1,17 @@
--- What a counter's number says: below twelve the counter, else that there is none.
+-- What a counter's number says, and a kind's: below twelve, or three, the counter or kind, else that there is none.
 use mathlib.Core.Path.{_≡_, refl}
+use mathlib.Core.Bool.{cond}
+use mathlib.Core.List.{List}
 use mathlib.Core.Option.{Option, none, some}
 use Prim.Native.Nat.{ℕ, _≤_, _<_}
 use native.Mathlib.Omega.{arith}
+use lib.Dec.{ltb}
+use borrow.Author.Tests.{lt-ltb}
 use Rattle.logpage.specs.declared.Settings.{Settings}
 use Rattle.monitor.specs.declared.commands.Command.{Command}
-use Rattle.monitor.specs.Commands.{counterOf, counterNumber}
-use Rattle.monitor.proofs.commands.Laws.{counter-below}
+use Rattle.monitor.specs.Commands.{counterOf, counterNumber, belowAOf, kindNumber}
+use Rattle.monitor.specs.Counting.{onceMoreAt, countedBelowA}
+use Rattle.monitor.proofs.commands.Laws.{counter-below, below-a-few}
 
 module _ (s : Settings) (c : Command) (n : ℕ) (number : n ≡ counterNumber (counterOf s c)) where
   pub is-counter : n < 12 → counterOf s c ≡ some n
@@ -22,3 +27,18 @@ module _ (s : Settings) (c : Command) (n : ℕ) (number : n ≡ counterNumber (c
       by : (o : Option ℕ) → counterOf s c ≡ o → n ≡ counterNumber o → o ≡ none
       by none is e = refl
       by (some k) is e = absurd (omega (arith, counter-below s c k is))
+
+-- the counts below threshold A, by a kind's number
+pub counted-kind :
+    (s : Settings) (c : Command) (counts : List ℕ) (k : ℕ) →
+    k ≡ kindNumber (belowAOf s c) →
+    cond (ltb k 3) (onceMoreAt counts k) counts ≡ countedBelowA (belowAOf s c) counts
+counted-kind s c counts k number = by (belowAOf s c) refl number
+  where
+    by :
+        (o : Option ℕ) →
+        belowAOf s c ≡ o →
+        k ≡ kindNumber o →
+        cond (ltb k 3) (onceMoreAt counts k) counts ≡ countedBelowA o counts
+    by none is e = rw e
+    by (some j) is e = rw (e, lt-ltb j 3 (below-a-few s c j is))

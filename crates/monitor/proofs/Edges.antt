@@ -16,7 +16,7 @@ use Rattle.monitor.specs.Commands.{kindOf, highestBelow, bucketOf, count
 use Rattle.monitor.specs.Counting.{loads, countedIn, triggers}
 use Rattle.monitor.specs.Edges.{enabledWith, read, usual, elapsedAnswers, bucket, measures, readAnswer, Holds}
 use Rattle.monitor.specs.Edges.{EdgesHold}
-use Rattle.monitor.specs.Record.{noLoads, newMonitor, afterSettings, afterCompletion, completionAnswer}
+use Rattle.monitor.specs.Record.{noLoads, noneBelowA, newMonitor, afterSettings, afterCompletion, completionAnswer}
 use Rattle.monitor.specs.Record.{afterElapsed, elapsedAnswer}
 use Rattle.monitor.specs.Refusals.{settingsRefusal, fieldRefusal, elapsedRefusal}
 use Rattle.monitor.specs.Settings.{decoded, encoded}
@@ -41,6 +41,8 @@ enabled-record thresholds =
       clock = 0;
       loaded = noLoads;
       debug = noDebugLog;
+      «active_below_a» = noneBelowA;
+      «static_below_a» = noneBelowA;
       «static_window» = emptyWindow;
       «active_window» = emptyWindow;
     }

@@ -7,4 +7,5 @@ pub mod Play
 pub mod Bounds
 pub mod Given
 pub mod Pages
+pub mod BelowA
 pub mod ReadBack

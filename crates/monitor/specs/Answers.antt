@@ -1,5 +1,6 @@
 -- What document 01 lets a call answer, and which of it each case of the code's enums says.
 use mathlib.Core.Bool.{Bool, true, false}
+use mathlib.Core.List.{List}
 use mathlib.Core.Option.{Option, none, some}
 use Prim.Native.Nat.{ℕ}
 use Rattle.logpage.specs.declared.answers.Answer.{Answer}
@@ -19,6 +20,8 @@ pub data CallAnswer : Type 0 where
   counted : ℕ → Bool → Bool → CallAnswer
   -- 01, Time and power: whether the active window ended
   ended : Bool → CallAnswer
+  -- 02, Ticket 2: the counts below threshold A of a window, by kind
+  belowA : List ℕ → CallAnswer
 
 -- the refusal if there is one, else the answer of an accepted call
 abbrev pub unlessRefused : Option ℕ → CallAnswer → CallAnswer

@@ -3,22 +3,24 @@ use mathlib.Core.Path.{_≡_}
 use mathlib.Core.List.{List, _∷_}
 use mathlib.Core.Logic.{_↔_}
 use mathlib.Core.Option.{Option, none}
-use Prim.Native.Nat.{ℕ, _*_, _%_, _<_}
+use Prim.Native.Nat.{ℕ, _+_, _*_, _%_, _<_}
 use lib.Dec.{ltb}
-use lib.ListN.{length, set, replicate}
+use lib.ListN.{length, getD, set, replicate}
 use Rattle.logpage.specs.Page.{pageBytes}
 use Rattle.logpage.specs.Reader.{shown, readRefusal, readingOf}
-use Rattle.logpage.specs.Fields.{each}
+use Rattle.logpage.specs.Fields.{from, each}
+use Rattle.logpage.specs.declared.Window.{Window}
 use Rattle.monitor.specs.Facts.{inForce, clockAt, hostSetAt, timerThreshold, enabledTime, windowAt, timerAt}
 use Rattle.monitor.specs.Facts.{Counted, active, static, countOf, lastLoad, stampOf, latencyOf, unitsOf}
-use Rattle.monitor.specs.Facts.{windowFrom}
-use Rattle.monitor.specs.Facts.{debugAt, factsOf}
-use Rattle.monitor.specs.History.{elapsed, History, Past, OfBytes, settingsIn, found, latest, pastOf, play}
+use Rattle.monitor.specs.Facts.{windowFrom, debugAt, factsOf, sum, ofKind, belowACounts}
+use Rattle.monitor.specs.History.{elapsed, History, Past, OfBytes, Every, settingsIn, found, latest, pastOf, play}
 use Rattle.monitor.specs.Answers.{ended, unlessRefused}
 use Rattle.monitor.specs.Record.{untouchedIf, elapsedAnswer}
 use Rattle.monitor.specs.declared.record.Monitor.{Monitor}
+use Rattle.monitor.specs.declared.report.WindowChoice.{WindowChoice}
+use Rattle.monitor.specs.declared.report.WindowChoice.the-variants.{Active, Static}
 use Rattle.monitor.specs.Refusals.{elapsedRefusal, pageRefusal, settingsBackRefusal}
-use Rattle.monitor.specs.Report.{pageOf, settingsOf}
+use Rattle.monitor.specs.Report.{pageOf, settingsOf, countsBelowA}
 use Rattle.monitor.specs.Settings.{encoded}
 
 -- the time in the active window at a stamp's load, which the record keeps for the minimum window
@@ -35,6 +37,8 @@ recordOf past =
       partial = enabledTime past % 300000;
       clock = clockAt past;
       loaded = each (λ n. loadedOf (lastLoad (active past n)));
+      «active_below_a» = belowACounts Active past;
+      «static_below_a» = belowACounts Static past;
       debug = debugAt past;
       «static_window» = windowFrom (static past);
       «active_window» = windowFrom (active past);
@@ -100,3 +104,25 @@ pageByFacts h buffer = untouchedIf (pageRefusal (length buffer)) buffer (pageByt
 
 unfoldable pub settingsByFacts : History → List ℕ → List ℕ
 settingsByFacts h buffer = untouchedIf (settingsBackRefusal (length buffer)) buffer (lastAccepted h)
+
+-- 02, Ticket 2: the call returns, after any history, the counts below threshold A that its facts give
+abbrev pub BelowAShowsFacts : Type 0
+BelowAShowsFacts = (h : History) (w : WindowChoice) → countsBelowA w (play h) ≡ belowACounts w (pastOf h)
+
+-- a kind's five counts in a window: below threshold A, as the call returns it, and those of its four counters
+abbrev pub windowIn : WindowChoice → Monitor → Window
+windowIn Active m = m .«active_window»
+windowIn Static m = m .«static_window»
+
+abbrev pub fiveCounts : WindowChoice → Monitor → ℕ → List ℕ
+fiveCounts w m k =
+    getD (countsBelowA w m) k 0 ∷ from 0 4 (λ bucket. getD (windowIn w m .counters) (3 * bucket + k) 0)
+
+-- 02, Ticket 2: unless one of the five is at its top, they add up to the enabled completions of the kind in the window,
+-- counted from the history whatever their latencies
+abbrev pub FiveCountsAddUp : Type 0
+FiveCountsAddUp =
+    (h : History) (w : WindowChoice) (k : ℕ) →
+    k < 3 →
+    Every (λ count. count < 4294967295) (fiveCounts w (play h) k) →
+    sum (fiveCounts w (play h) k) ≡ length (ofKind w (pastOf h) k)

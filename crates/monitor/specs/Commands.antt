@@ -66,6 +66,15 @@ counterOf s c =
     (cond (reachesA (s .thresholds) c) (counterAt (bucketOf (s .thresholds) c) (kindOf c)) none)
     none
 
+-- 02, Ticket 2: the kind of a completion below threshold A; none while the monitor is disabled
+unfoldable pub belowAOf : Settings → Command → Option ℕ
+belowAOf s c = cond (s .enabled) (cond (reachesA (s .thresholds) c) none (kindOf c)) none
+
+-- the kind as a number: three is that of none
+abbrev pub kindNumber : Option ℕ → ℕ
+kindNumber (some k) = k
+kindNumber none = 3
+
 -- 01, A completion: the whole ms of a latency, as many as two bytes hold
 unfoldable pub millisecondsOf : Command → ℕ
 millisecondsOf c = min (c .latency / 1000) 65535

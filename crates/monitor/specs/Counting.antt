@@ -1,5 +1,7 @@
--- A counted completion: its counter, its counter's stamp, and the debug log.
+-- A counted completion: its counter, its counter's stamp, and the debug log. And one below threshold A: its kind's count.
 use mathlib.Core.Bool.{Bool, cond, _&&_, _||_}
+use mathlib.Core.List.{List}
+use mathlib.Core.Option.{Option, none, some}
 use Prim.Native.Nat.{ℕ, _+_, _*_, _/_, _%_, _^_, min}
 use lib.Dec.{eqb, leb, ltb}
 use lib.ListN.{getD, set}
@@ -15,6 +17,15 @@ bit mask n = eqb (mask / 2 ^ n % 2) 1
 abbrev pub onceMore : ℕ → ℕ
 onceMore counter = min (counter + 1) 4294967295
 
+-- counters after one more for counter n
+abbrev pub onceMoreAt : List ℕ → ℕ → List ℕ
+onceMoreAt counters n = set counters n (onceMore (getD counters n 0))
+
+-- 02, Ticket 2: the counts below threshold A, by kind, after a completion of this kind, or of none
+abbrev pub countedBelowA : Option ℕ → List ℕ → List ℕ
+countedBelowA (some k) counts = onceMoreAt counts k
+countedBelowA none counts = counts
+
 -- 01, A completion: what mode largest asks for: more ms than were measured (as many are not enough), and a minimum
 -- window, in units of 100 ms, that is over since the last load
 abbrev pub exceeds : (latency since ms minimum : ℕ) → Bool
@@ -29,7 +40,7 @@ loads stamp latency since ms largest minimum = eqb stamp unset || (largest && ex
 unfoldable pub countedIn : Bool → (n clock ms : ℕ) (hostSet : Bool) → Window → Window
 countedIn load n clock ms hostSet w =
     record {
-      counters = set (w .counters) n (onceMore (getD (w .counters) n 0));
+      counters = onceMoreAt (w .counters) n;
       stamps = cond load (set (w .stamps) n clock) (w .stamps);
       latencies = cond load (set (w .latencies) n ms) (w .latencies);
       units = cond load (set (w .units) n hostSet) (w .units);

@@ -11,6 +11,7 @@ use Rattle.logpage.specs.declared.page.LogPage.{LogPage}
 use Rattle.monitor.specs.declared.commands.Command.{Command}
 use Rattle.monitor.specs.declared.record.Monitor.{Monitor}
 use Rattle.monitor.specs.Answers.{CallAnswer, notCounted, counted, ended}
+use Rattle.monitor.specs.History.{Every}
 use Rattle.monitor.specs.Settings.{encoded}
 use Rattle.monitor.specs.Record.{newMonitor, afterSettings, afterCompletion, completionAnswer, afterElapsed}
 use Rattle.monitor.specs.Record.{elapsedAnswer}
@@ -84,10 +85,6 @@ edges =
     ∷ stampAt 3 0 112  -- P11
     ∷ stampAt 0 2 168  -- P12
     ∷ []
-
-abbrev pub Every : (Edge → Type 0) → List Edge → Type 0
-Every P [] = Unit {0}
-Every P (e ∷ later) = P e × Every P later
 
 -- Every row of the table holds.
 abbrev pub EdgesHold : Type 0

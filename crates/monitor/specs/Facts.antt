@@ -1,20 +1,22 @@
 -- 01, The facts of a history: all of this file. Each fact is asked at a place, of what was done before it.
-use mathlib.Core.Bool.{Bool, false, cond, _&&_}
+use mathlib.Core.Bool.{Bool, false, cond, not, _&&_}
 use mathlib.Core.List.{List, [], _∷_}
 use mathlib.Core.Option.{Option, none, some}
 use Prim.Native.Nat.{ℕ, _+_, _-_, _*_, _/_, min}
 use lib.Dec.{eqb, leb, ltb}
 use lib.ListN.{length}
-use Rattle.logpage.specs.Fields.{unset, noSettings, noDebugLog, each}
+use Rattle.logpage.specs.Fields.{unset, noSettings, noDebugLog, from, each}
 use Rattle.logpage.specs.declared.page.LogPage.{LogPage}
 use Rattle.logpage.specs.declared.DebugLog.{DebugLog}
 use Rattle.logpage.specs.declared.Settings.{Settings}
 use Rattle.logpage.specs.declared.Window.{Window}
 use Rattle.monitor.specs.declared.commands.Command.{Command}
-use Rattle.monitor.specs.Commands.{counterOf, millisecondsOf}
+use Rattle.monitor.specs.declared.report.WindowChoice.{WindowChoice}
+use Rattle.monitor.specs.declared.report.WindowChoice.the-variants.{Active, Static}
+use Rattle.monitor.specs.Commands.{kindOf, reachesA, counterOf, millisecondsOf}
 use Rattle.monitor.specs.Counting.{bit, debugLog}
 use Rattle.monitor.specs.History.{Effect, Past, ClockSetting, settingsIn, completionIn, elapsedIn, clockIn, found}
-use Rattle.monitor.specs.History.{latest, since, onlyIf}
+use Rattle.monitor.specs.History.{latest, since, onlyIf, andThen}
 use Rattle.monitor.specs.Settings.{decoded, discard}
 
 -- in force: what the latest accepted settings say, or a new monitor's settings
@@ -71,44 +73,90 @@ windowAt past = enabledTime past / (300000 * timerThreshold past)
 unfoldable pub timerAt : Past → ℕ
 timerAt past = enabledTime past / 300000 - windowAt past * timerThreshold past
 
--- a counted completion, with its counter and its place: what becomes of it is asked of the settings in force there
+-- an enabled completion of a Read, Write or Deallocate, with its kind and its place: what becomes of it is asked of the
+-- settings in force there, and its window is the one at that place
+pub record Completed : Type 0 where
+  pub kind : ℕ
+  pub command : Command
+  pub before : Past
+
+abbrev pub completedAt : Effect → Past → Option Completed
+completedAt e past =
+    found none
+    (λ c. found none (λ k. onlyIf (inForce past .enabled) (record { kind = k; command = c; before = past })) (kindOf c))
+    (completionIn e)
+
+-- all of them since the latest settings that enable, the newest first; those settings are the latest such ones at each
+-- of their places too, so the numbers of windows can be compared
+abbrev pub sinceEnabled : Past → List Completed
+sinceEnabled past = since enablingIn completedAt past
+
+-- a counted one, with its counter
 pub record Counted : Type 0 where
   pub counter : ℕ
   pub command : Command
   pub before : Past
 
+abbrev pub counted : Completed → Option Counted
+counted x =
+    found none (λ n. some (record { counter = n; command = x .command; before = x .before }))
+    (counterOf (inForce (x .before)) (x .command))
+
 abbrev pub countedAt : Effect → Past → Option Counted
-countedAt e past =
-    found none
-    (λ c. found none (λ n. some (record { counter = n; command = c; before = past })) (counterOf (inForce past) c))
-    (completionIn e)
+countedAt e past = found none counted (completedAt e past)
 
--- the completions counted since the latest settings that enable, the newest first; those settings are the latest such
--- ones at each of their places too, so the numbers of windows can be compared
-abbrev pub sinceEnabled : Past → List Counted
-sinceEnabled past = since enablingIn countedAt past
+-- what f finds of the entries of a list
+unfoldable pub filterMap : {A B : Type 0} → (A → Option B) → List A → List B
+filterMap f [] = []
+filterMap f (x ∷ xs) = andThen (f x) (filterMap f xs)
 
--- those of a list that pass a test
-unfoldable pub filter : (Counted → Bool) → List Counted → List Counted
+-- the entries of a list that pass a test
+unfoldable pub filter : {A : Type 0} → (A → Bool) → List A → List A
 filter test [] = []
 filter test (x ∷ xs) = cond (test x) (x ∷ filter test xs) (filter test xs)
 
--- one counter's completions in the active window, and in the static one (document 01: running, last finished)
+-- the counted ones among all of them
+abbrev pub countedSince : Past → List Counted
+countedSince past = filterMap counted (sinceEnabled past)
+
+-- whether a place is in the active window of a past, or in its static one (document 01: running, last finished)
+abbrev pub isIn : WindowChoice → Past → Past → Bool
+isIn Active past place = eqb (windowAt place) (windowAt past)
+isIn Static past place = eqb (windowAt place + 1) (windowAt past)
+
+-- one counter's completions in either window
 abbrev pub activeFor : Past → ℕ → Counted → Bool
-activeFor past n x = eqb (windowAt (x .before)) (windowAt past) && eqb (x .counter) n
+activeFor past n x = isIn Active past (x .before) && eqb (x .counter) n
 
 abbrev pub staticFor : Past → ℕ → Counted → Bool
-staticFor past n x = eqb (windowAt (x .before) + 1) (windowAt past) && eqb (x .counter) n
+staticFor past n x = isIn Static past (x .before) && eqb (x .counter) n
 
 unfoldable pub active : Past → ℕ → List Counted
-active past n = filter (activeFor past n) (sinceEnabled past)
+active past n = filter (activeFor past n) (countedSince past)
 
 unfoldable pub static : Past → ℕ → List Counted
-static past n = filter (staticFor past n) (sinceEnabled past)
+static past n = filter (staticFor past n) (countedSince past)
 
 -- the count: how many there are, up to the counter's top
-unfoldable pub countOf : List Counted → ℕ
+unfoldable pub countOf : {A : Type 0} → List A → ℕ
 countOf xs = min (length xs) 4294967295
+
+-- 02, Ticket 2: all enabled completions of a kind in a window, whatever their latency, and those below threshold A
+abbrev pub kindIn : WindowChoice → Past → ℕ → Completed → Bool
+kindIn w past k x = isIn w past (x .before) && eqb (x .kind) k
+
+abbrev pub isBelowA : Completed → Bool
+isBelowA x = not (reachesA (inForce (x .before) .thresholds) (x .command))
+
+unfoldable pub ofKind : WindowChoice → Past → ℕ → List Completed
+ofKind w past k = filter (kindIn w past k) (sinceEnabled past)
+
+unfoldable pub ofKindBelowA : WindowChoice → Past → ℕ → List Completed
+ofKindBelowA w past k = filter (λ x. kindIn w past k x && isBelowA x) (sinceEnabled past)
+
+-- 02, Ticket 2: the counts below threshold A, by kind
+unfoldable pub belowACounts : WindowChoice → Past → List ℕ
+belowACounts w past = from 0 3 (λ k. countOf (ofKindBelowA w past k))
 
 -- whether x loads the stamp again after a load: in mode largest, with more ms, and with the minimum window over. The
 -- first completion in a window always loads it

@@ -6,12 +6,14 @@ use Prim.Native.Nat.{ℕ}
 use Rattle.endian.specs.Bytes.{Bytes}
 use Rattle.monitor.specs.declared.commands.Command.{Command}
 use Rattle.monitor.specs.declared.record.Monitor.{Monitor}
+use Rattle.monitor.specs.declared.report.WindowChoice.{WindowChoice}
+use Rattle.monitor.specs.Answers as answers
 use Rattle.monitor.specs.Answers.{CallAnswer, done}
 use Rattle.monitor.specs.Record.{newMonitor, afterSettings, afterCompletion, afterElapsed, afterClock}
 use Rattle.monitor.specs.Record.{afterPowerUp, settingsAnswer, completionAnswer, elapsedAnswer, clockAnswer}
 use Rattle.monitor.specs.Refusals.{settingsRefusal, elapsedRefusal, clockRefusal, pageRefusal}
 use Rattle.monitor.specs.Refusals.{settingsBackRefusal}
-use Rattle.monitor.specs.Report.{pageAnswer, settingsBackAnswer}
+use Rattle.monitor.specs.Report.{pageAnswer, settingsBackAnswer, countsBelowA}
 
 -- 01, The facts of a history: a call with what it is given; of a lent buffer only the length matters
 pub data Call : Type 0 where
@@ -22,12 +24,14 @@ pub data Call : Type 0 where
   powerUp : Call
   page : ℕ → Call
   settingsBack : ℕ → Call
+  -- 02, Ticket 2
+  belowA : WindowChoice → Call
 
 -- the calls from a new monitor on, the newest first: what stands behind a call is the history at its place
 abbrev pub History : Type 0
 History = List Call
 
--- what a call leaves of the record, by the call's own definition; page and settings back only read
+-- what a call leaves of the record, by the call's own definition; the last three only read
 abbrev pub after : Call → Monitor → Monitor
 after (settings s) m = afterSettings m s
 after (completion c) m = afterCompletion m c
@@ -36,6 +40,7 @@ after (clock value) m = afterClock m value
 after powerUp m = afterPowerUp m
 after (page n) m = m
 after (settingsBack n) m = m
+after (belowA w) m = m
 
 -- what a call answers on a record, by the call's own definition (document 01, each call's section)
 abbrev pub answerOf : Monitor → Call → CallAnswer
@@ -46,6 +51,7 @@ answerOf m (clock value) = clockAnswer value
 answerOf m powerUp = done
 answerOf m (page n) = pageAnswer n
 answerOf m (settingsBack n) = settingsBackAnswer n
+answerOf m (belowA w) = answers.belowA (countsBelowA w m)
 
 -- the record that a history leaves of another
 unfoldable pub playFrom : Monitor → History → Monitor
@@ -65,6 +71,7 @@ refusalOf (clock value) = clockRefusal value
 refusalOf powerUp = none
 refusalOf (page n) = pageRefusal n
 refusalOf (settingsBack n) = settingsBackRefusal n
+refusalOf (belowA w) = none
 
 -- what a call does to the record
 pub data Effect : Type 0 where
@@ -87,6 +94,7 @@ asked (clock value) = clockSet value
 asked powerUp = poweredUp
 asked (page n) = nothing
 asked (settingsBack n) = nothing
+asked (belowA w) = nothing
 
 -- 01, The facts of a history: what a call does, which is nothing unless it is accepted
 abbrev pub effectOf : Call → Effect
@@ -168,7 +176,11 @@ unfoldable pub since : {A B : Type 0} → (Effect → Option B) → (Effect → 
 since start f [] = []
 since start f (e ∷ past) = unlessFound (start e) (andThen (f e past) (since start f past))
 
+-- a fact of each entry of a list
+abbrev pub Every : {A : Type 0} → (A → Type 0) → List A → Type 0
+Every P [] = Unit {0}
+Every P (x ∷ xs) = P x × Every P xs
+
 -- the settings of a history are bytes
 abbrev pub OfBytes : History → Type 0
-OfBytes [] = Unit {0}
-OfBytes (c ∷ h) = Bytes (found [] (λ s. s) (settingsIn (asked c))) × OfBytes h
+OfBytes h = Every (λ c. Bytes (found [] (λ s. s) (settingsIn (asked c)))) h

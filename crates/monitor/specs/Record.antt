@@ -10,18 +10,23 @@ use Rattle.monitor.specs.declared.commands.Command.{Command}
 use Rattle.monitor.specs.declared.record.Monitor.{Monitor}
 use Rattle.monitor.specs.declared.timer.Tick.{Tick}
 use Rattle.monitor.specs.Answers.{CallAnswer, done, notCounted, counted, ended, unlessRefused}
-use Rattle.monitor.specs.Commands.{counterOf, millisecondsOf}
+use Rattle.monitor.specs.Commands.{counterOf, belowAOf, millisecondsOf}
 use Rattle.monitor.specs.Refusals.{settingsRefusal, elapsedRefusal, clockRefusal}
 use Rattle.monitor.specs.Settings.{discard, decoded}
-use Rattle.monitor.specs.Counting.{bit, loads, countedIn, triggers, debugLog}
+use Rattle.monitor.specs.Counting.{bit, loads, countedIn, countedBelowA, triggers, debugLog}
 use Rattle.monitor.specs.Timer.{grown, ticked, inWindow}
 
 -- no stamp was loaded in the active window
 abbrev pub noLoads : List ℕ
 noLoads = replicate 12 0
 
+-- 02, Ticket 2: no completion of a kind was below threshold A
+abbrev pub noneBelowA : List ℕ
+noneBelowA = replicate 3 0
+
 -- 01, The monitor's record: before any call. Document 01 calls `timer` steps, `partial` the partial step, the active
--- window the running one and the static window the last finished one
+-- window the running one and the static window the last finished one. 02, Ticket 2: beside each window stand its counts
+-- below threshold A
 unfoldable pub newMonitor : Monitor
 newMonitor =
     record {
@@ -32,7 +37,9 @@ newMonitor =
       partial = 0;
       «active_window» = emptyWindow;
       loaded = noLoads;
+      «active_below_a» = noneBelowA;
       «static_window» = emptyWindow;
+      «static_below_a» = noneBelowA;
       debug = noDebugLog;
     }
 
@@ -54,7 +61,9 @@ replaced m s =
       partial = cond on 0 (m .partial);
       «active_window» = cond on emptyWindow (m .«active_window»);
       loaded = cond on noLoads (m .loaded);
+      «active_below_a» = cond on noneBelowA (m .«active_below_a»);
       «static_window» = cond on emptyWindow (m .«static_window»);
+      «static_below_a» = cond on noneBelowA (m .«static_below_a»);
       debug = cond (eqb (discard s) 1) noDebugLog (m .debug);
     }
 
@@ -90,18 +99,39 @@ afterCounted m n ms =
       partial = m .partial;
       «active_window» = countedIn (loadsAt m n ms) n (m .clock) ms (m .«host_set») (m .«active_window»);
       loaded = cond (loadsAt m n ms) (set (m .loaded) n (inWindow (m .timer) (m .partial))) (m .loaded);
+      «active_below_a» = m .«active_below_a»;
       «static_window» = m .«static_window»;
+      «static_below_a» = m .«static_below_a»;
       debug = cond (triggersAt m n) (debugLog n (m .clock) ms (m .«host_set»)) (m .debug);
     }
 
--- a completion without a counter leaves the record as it is
-abbrev onCounter : Option ℕ → Monitor → ℕ → Monitor
-onCounter (some n) m ms = afterCounted m n ms
-onCounter none m ms = m
+-- 02, Ticket 2: the record after a completion without a counter. If it was below threshold A its kind's count grows, and
+-- nothing else changes
+abbrev afterNotCounted : Monitor → Option ℕ → Monitor
+afterNotCounted m kind =
+    record {
+      settings = m .settings;
+      clock = m .clock;
+      «host_set» = m .«host_set»;
+      timer = m .timer;
+      partial = m .partial;
+      «active_window» = m .«active_window»;
+      loaded = m .loaded;
+      «active_below_a» = countedBelowA kind (m .«active_below_a»);
+      «static_window» = m .«static_window»;
+      «static_below_a» = m .«static_below_a»;
+      debug = m .debug;
+    }
+
+-- by the counter, or the kind below threshold A
+abbrev onCounter : Option ℕ → Option ℕ → Monitor → ℕ → Monitor
+onCounter (some n) kind m ms = afterCounted m n ms
+onCounter none kind m ms = afterNotCounted m kind
 
 -- 01, A completion: what it does; nothing turns it away
 unfoldable pub afterCompletion : Monitor → Command → Monitor
-afterCompletion m c = onCounter (counterOf (m .settings) c) m (millisecondsOf c)
+afterCompletion m c =
+    onCounter (counterOf (m .settings) c) (belowAOf (m .settings) c) m (millisecondsOf c)
 
 -- 01, A completion: what it answers
 abbrev counterAnswer : Option ℕ → Monitor → ℕ → CallAnswer
@@ -116,7 +146,8 @@ abbrev tickedBy : Monitor → ℕ → Tick
 tickedBy m ms =
     ticked (m .settings .enabled) (m .settings .«timer_threshold») (m .timer) (m .partial) ms
 
--- 01, Time and power: the record after accepted elapsed time. A window that ends takes the static window's place
+-- 01, Time and power: the record after accepted elapsed time. A window that ends takes the static window's place, and
+-- its counts below threshold A go with it
 abbrev afterTime : Monitor → ℕ → Monitor
 afterTime m ms =
     let t : Tick = tickedBy m ms in
@@ -128,7 +159,9 @@ afterTime m ms =
       partial = t .partial;
       «active_window» = cond (t .expired) emptyWindow (m .«active_window»);
       loaded = cond (t .expired) noLoads (m .loaded);
+      «active_below_a» = cond (t .expired) noneBelowA (m .«active_below_a»);
       «static_window» = cond (t .expired) (m .«active_window») (m .«static_window»);
+      «static_below_a» = cond (t .expired) (m .«active_below_a») (m .«static_below_a»);
       debug = m .debug;
     }
 
@@ -139,7 +172,7 @@ afterElapsed m ms = untouchedIf (elapsedRefusal ms) m (afterTime m ms)
 unfoldable pub elapsedAnswer : Monitor → ℕ → CallAnswer
 elapsedAnswer m ms = unlessRefused (elapsedRefusal ms) (ended (tickedBy m ms .expired))
 
--- the record with another clock; the times of the window and of its loads stay
+-- the record with another clock; the windows, and the times of the active one and of its loads, stay
 abbrev withClock : Monitor → ℕ → Bool → Monitor
 withClock m value hostSet =
     record {
@@ -150,7 +183,9 @@ withClock m value hostSet =
       partial = m .partial;
       «active_window» = m .«active_window»;
       loaded = m .loaded;
+      «active_below_a» = m .«active_below_a»;
       «static_window» = m .«static_window»;
+      «static_below_a» = m .«static_below_a»;
       debug = m .debug;
     }
 

@@ -1,10 +1,12 @@
--- The calls that only read: what they leave of the lent buffer, and what they answer.
+-- The calls that only read: what they leave of the lent buffer, and what they return or answer.
 use mathlib.Core.List.{List}
 use Prim.Native.Nat.{ℕ}
 use lib.ListN.{length}
 use Rattle.logpage.specs.Page.{pageBytes}
 use Rattle.logpage.specs.declared.page.LogPage.{LogPage}
 use Rattle.monitor.specs.declared.record.Monitor.{Monitor}
+use Rattle.monitor.specs.declared.report.WindowChoice.{WindowChoice}
+use Rattle.monitor.specs.declared.report.WindowChoice.the-variants.{Active, Static}
 use Rattle.monitor.specs.Answers.{CallAnswer, done, unlessRefused}
 use Rattle.monitor.specs.Record.{untouchedIf}
 use Rattle.monitor.specs.Refusals.{pageRefusal, settingsBackRefusal}
@@ -40,3 +42,8 @@ afterSettingsBack m buffer = untouchedIf (settingsBackRefusal (length buffer)) b
 
 unfoldable pub settingsBackAnswer : ℕ → CallAnswer
 settingsBackAnswer n = unlessRefused (settingsBackRefusal n) done
+
+-- 02, Ticket 2: the counts below threshold A of either window, by kind
+abbrev pub countsBelowA : WindowChoice → Monitor → List ℕ
+countsBelowA Active m = m .«active_below_a»
+countsBelowA Static m = m .«static_below_a»

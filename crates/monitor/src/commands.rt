@@ -3,7 +3,7 @@ ghost use mathlib.Core.Path.{_≡_};
 ghost use mathlib.Core.Option.{some};
 ghost use Prim.Native.Nat.{_<_};
 ghost use Rattle.monitor.specs.Commands.{kindOf, reaches, bucketOf, counterAt, counterOf, millisecondsOf};
-ghost use Rattle.monitor.specs.Commands.{saysKind, saysBucket, counterNumber};
+ghost use Rattle.monitor.specs.Commands.{belowAOf, saysKind, saysBucket, counterNumber, kindNumber};
 use logpage::Settings;
 
 // What a completion brings.
@@ -31,6 +31,9 @@ pub enum Bucket {
 // There are twelve counters; this is the number of none of them.
 pub const NOT_COUNTED: u16 = 12;
 
+// There are three kinds; this is the number of none of them.
+const NO_KIND: u16 = 3;
+
 // Whether a latency reaches a threshold, whose byte v means 5 x (v + 1) ms.
 fn reaches(latency: u32, threshold: u8) -> bool
     ensures { λ r. ⌜ r ≡ reaches latency threshold ⌝ }
@@ -49,6 +52,18 @@ fn counter_at(bucket: u8, kind: Kind) -> u16
         Kind::Write => read + 1,
         Kind::Deallocate => read + 2,
         Kind::Other => NOT_COUNTED,
+    }
+}
+
+// The number of a kind.
+fn kind_number(kind: Kind) -> u16
+    ensures { λ r. ⌜ r ≡ kindNumber (saysKind kind) ⌝ }
+{
+    match kind {
+        Kind::Read => 0,
+        Kind::Write => 1,
+        Kind::Deallocate => 2,
+        Kind::Other => NO_KIND,
     }
 }
 
@@ -108,6 +123,22 @@ impl Command {
             }
         } else {
             NOT_COUNTED
+        }
+    }
+
+    // The number of the kind, of a completion below threshold A; NO_KIND for any other.
+    pub fn below_a(self, s: Settings) -> u16
+        ensures { λ r. ⌜ r ≡ kindNumber (belowAOf s self) ⌝ }
+    {
+        if s.enabled {
+            let thresholds = s.thresholds;
+            if reaches(self.latency, thresholds[0]) {
+                NO_KIND
+            } else {
+                kind_number(self.kind())
+            }
+        } else {
+            NO_KIND
         }
     }
 }

@@ -2,8 +2,8 @@
 ghost use mathlib.Core.Path.{_≡_};
 ghost use mathlib.Core.Bool.{cond};
 ghost use Prim.Native.Nat.{_-_, _^_, _<_};
-ghost use lib.ListN.{getD, set};
-ghost use Rattle.monitor.specs.Counting.{bit, onceMore, exceeds, triggers, debugLog};
+ghost use lib.Dec.{ltb};
+ghost use Rattle.monitor.specs.Counting.{bit, onceMore, onceMoreAt, exceeds, triggers, debugLog};
 use logpage::DebugLog;
 use logpage::UNSET;
 
@@ -43,7 +43,7 @@ fn counted_if(counter: u32, here: bool) -> u32
 // vector registers: a store at n alone would send them through memory.
 pub(crate) fn counted_at(mut counters: [u32; 12], n: u16) -> [u32; 12]
     requires { ⌜ n < 12 ⌝ }
-    ensures { λ r. ⌜ r ≡ set counters n (onceMore (getD counters n 0)) ⌝ }
+    ensures { λ r. ⌜ r ≡ onceMoreAt counters n ⌝ }
 {
     let mut i: u16 = 0;
     while i < 12 {
@@ -52,6 +52,19 @@ pub(crate) fn counted_at(mut counters: [u32; 12], n: u16) -> [u32; 12]
         i += 1;
     }
     counters
+}
+
+// The counts below threshold A after one more of a kind; a number of no kind changes none. Written whole, as above.
+pub(crate) fn counted_below_a(mut counts: [u32; 3], kind: u16) -> [u32; 3]
+    ensures { λ r. ⌜ r ≡ cond (ltb kind 3) (onceMoreAt counts kind) counts ⌝ }
+{
+    let mut i: u16 = 0;
+    while i < 3 {
+        let at = i as usize;
+        counts[at] = counted_if(counts[at], i == kind);
+        i += 1;
+    }
+    counts
 }
 
 // The time from a load until now; 0 where the load comes later, which no history makes.

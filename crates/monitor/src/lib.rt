@@ -17,3 +17,4 @@ pub use record::CompletionOutcome;
 pub use record::ElapsedOutcome;
 pub use record::Monitor;
 pub use record::Outcome;
+pub use report::WindowChoice;

@@ -33,6 +33,9 @@ pub struct Monitor {
     // For each counter, the time in the active window at the last load of its stamp, in ms.
     pub loaded: [u64; 12],
     pub debug: DebugLog,
+    // For each kind by its number, the enabled completions below threshold A in the active and in the static window.
+    pub active_below_a: [u32; 3],
+    pub static_below_a: [u32; 3],
     // Document 01: the last finished window.
     pub static_window: Window,
     // Document 01: the running window.
@@ -71,6 +74,8 @@ impl Monitor {
             clock: 0,
             loaded: [0; 12],
             debug: d,
+            active_below_a: [0; 3],
+            static_below_a: [0; 3],
             static_window: w,
             active_window: w,
         }
@@ -96,6 +101,8 @@ impl Monitor {
                     self.timer = 0;
                     self.partial = 0;
                     self.loaded = [0; 12];
+                    self.active_below_a = [0; 3];
+                    self.static_below_a = [0; 3];
                     self.static_window = w;
                     self.active_window = w;
                     let answer = Answer::Done;
@@ -168,6 +175,9 @@ impl Monitor {
                 CompletionOutcome { next: self, answer }
             }
         } else {
+            let active = self.active_below_a;
+            let below_a = counting::counted_below_a(active, c.below_a(self.settings));
+            self.active_below_a = below_a;
             let answer = CompletionAnswer::NotCounted;
             CompletionOutcome { next: self, answer }
         }
@@ -191,8 +201,11 @@ impl Monitor {
             self.partial = t.partial;
             if t.expired {
                 let w = self.active_window;
+                let below_a = self.active_below_a;
                 let e = Window::empty();
                 self.loaded = [0; 12];
+                self.static_below_a = below_a;
+                self.active_below_a = [0; 3];
                 self.static_window = w;
                 self.active_window = e;
                 let answer = ElapsedAnswer::Ended;

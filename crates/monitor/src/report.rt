@@ -1,15 +1,24 @@
-// The calls that only read the record: the log page, and the settings given back.
+// The calls that only read the record: the log page, the settings given back, and the counts below threshold A.
 ghost use mathlib.Core.Path.{_≡_};
 ghost use lib.ListN.{length};
 ghost use Rattle.monitor.specs.Answers.{saysAnswer};
 ghost use Rattle.monitor.specs.History.{History, OfBytes, play};
 ghost use Rattle.monitor.specs.Report.{afterPage, pageAnswer, afterSettingsBack, settingsBackAnswer};
+ghost use Rattle.monitor.specs.Report.{countsBelowA};
+ghost use Rattle.monitor.specs.History.{pastOf};
+ghost use Rattle.monitor.specs.Facts.{belowACounts};
 ghost use Rattle.monitor.specs.Claims.{pageByFacts, settingsByFacts};
 use crate::record::Monitor;
 use crate::refusals;
 use crate::settings;
 use logpage::Answer;
 use logpage::LogPage;
+
+// One of the record's windows.
+pub enum WindowChoice {
+    Active,
+    Static,
+}
 
 impl Monitor {
     // Log page C3h, into a buffer of 512 bytes.
@@ -49,6 +58,17 @@ impl Monitor {
             Answer::Done
         } else {
             Answer::Refused(refusals::SETTINGS_BACK_LENGTH)
+        }
+    }
+
+    // For each kind by its number, the enabled completions below threshold A in a window; the page does not show them.
+    pub fn below_a(self, window: WindowChoice) -> [u32; 3]
+        ensures counts { λ r. ⌜ r ≡ countsBelowA window self ⌝ }
+        ensures facts { λ r. ⌜ ((h : History) → self ≡ play h → r ≡ belowACounts window (pastOf h)) ⌝ }
+    {
+        match window {
+            WindowChoice::Active => self.active_below_a,
+            WindowChoice::Static => self.static_below_a,
         }
     }
 }

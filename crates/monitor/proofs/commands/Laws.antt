@@ -12,6 +12,7 @@ use lib.ListN.{getD}
 use Rattle.logpage.specs.declared.Settings.{Settings}
 use Rattle.monitor.specs.declared.commands.Command.{Command}
 use Rattle.monitor.specs.Commands.{highestBelow, reaches, reachesA, bucketOf, kindOf, counterAt, counterOf}
+use Rattle.monitor.specs.Commands.{belowAOf}
 
 -- one step of the search down
 module _ (thresholds : List ℕ) (us : ℕ) where
@@ -88,6 +89,12 @@ counter-below s c n e =
     let at-a-bucket = at-below (bucket-below (s .thresholds) (c .latency) 4) (kind-below c) in
     inside (rw e at (either (s .enabled) (either (reachesA (s .thresholds) c) at-a-bucket absent) absent))
 
+-- there are three kinds
+pub below-a-few : (s : Settings) (c : Command) (k : ℕ) → belowAOf s c ≡ some k → k < 3
+unfolding belowAOf
+below-a-few s c k e =
+    inside (rw e at (either (s .enabled) (either (reachesA (s .thresholds) c) absent (kind-below c)) absent))
+
 -- a disabled monitor counts nothing
 pub counter-enabled : (s : Settings) (c : Command) (n : ℕ) → counterOf s c ≡ some n → s .enabled ≡ true
 unfolding counterOf
@@ -98,3 +105,75 @@ counter-enabled s c n e = by (s .enabled) refl
     by false h =
         let nowhere : _≡_ {A = Option ℕ} none (some n) = rw (h, counterOf) at e in
         let never : _≡_ {A = ℕ} 0 1 = cc in absurd (omega arith)
+
+-- a latency that reaches threshold A has a bucket
+data Found (n : ℕ) : Option ℕ → Type 0 where
+  found-at : (b : ℕ) → b < n → Found n (some b)
+
+has-bucket :
+    (thresholds : List ℕ) (us : ℕ) →
+    reaches us (getD thresholds 0 0) ≡ true →
+    (n : ℕ) →
+    Found (suc n) (highestBelow thresholds us (suc n))
+unfolding highestBelow
+has-bucket thresholds us a zero = rw a (found-at 0 (omega arith))
+has-bucket thresholds us a (suc n) = by (reaches us (getD thresholds (suc n) 0)) (has-bucket thresholds us a n)
+  where
+    by :
+        (t : Bool) →
+        Found (suc n) (highestBelow thresholds us (suc n)) →
+        Found (suc (suc n)) (cond t (some (suc n)) (highestBelow thresholds us (suc n)))
+    by true f = found-at (suc n) (omega arith)
+    by false f = more-of f
+      where
+        more-of : {o : Option ℕ} → Found (suc n) o → Found (suc (suc n)) o
+        more-of (found-at b h) = found-at b (omega arith)
+
+-- what becomes of a completion: it has a counter, it is below threshold A, or it is of no kind or comes while disabled
+pub data Sorted (s : Settings) (c : Command) : Type 0 where
+  slow :
+      (k b : ℕ) →
+      k < 3 →
+      b < 4 →
+      s .enabled ≡ true →
+      kindOf c ≡ some k →
+      reachesA (s .thresholds) c ≡ true →
+      counterOf s c ≡ some (3 * b + k) →
+      Sorted s c
+  fast :
+      (k : ℕ) →
+      k < 3 →
+      s .enabled ≡ true →
+      kindOf c ≡ some k →
+      reachesA (s .thresholds) c ≡ false →
+      counterOf s c ≡ none →
+      belowAOf s c ≡ some k →
+      Sorted s c
+  kindless : kindOf c ≡ none → counterOf s c ≡ none → belowAOf s c ≡ none → Sorted s c
+  disabled : s .enabled ≡ false → counterOf s c ≡ none → belowAOf s c ≡ none → Sorted s c
+
+at-no-kind : (o : Option ℕ) → counterAt o none ≡ none
+at-no-kind none = refl
+at-no-kind (some b) = refl
+
+pub sorted : (s : Settings) (c : Command) → Sorted s c
+unfolding counterOf belowAOf bucketOf
+sorted s c = by (s .enabled) refl (reachesA (s .thresholds) c) refl (kindOf c) refl
+  where
+    by :
+        (on : Bool) →
+        s .enabled ≡ on →
+        (slow-enough : Bool) →
+        reachesA (s .thresholds) c ≡ slow-enough →
+        (kind : Option ℕ) →
+        kindOf c ≡ kind →
+        Sorted s c
+    by false off t a kind k = disabled off (rw off) (rw off)
+    by true on false a none k = kindless k (rw (on, a)) (rw (on, a) k)
+    by true on true a none k = kindless k (rw (on, a, k) (at-no-kind (highestBelow (s .thresholds) (c .latency) 4))) (rw (on, a))
+    by true on false a (some kind) k =
+        fast kind (inside (rw k at (kind-below c))) on k a (rw (on, a)) (rw (on, a) k)
+    by true on true a (some kind) k = bucketed (highestBelow (s .thresholds) (c .latency) 4) refl (has-bucket (s .thresholds) (c .latency) a 3)
+      where
+        bucketed : (o : Option ℕ) → highestBelow (s .thresholds) (c .latency) 4 ≡ o → Found 4 o → Sorted s c
+        bucketed o e (found-at b few) = slow kind b (inside (rw k at (kind-below c))) few on k a (rw (on, a, e, k))

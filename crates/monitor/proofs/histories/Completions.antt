@@ -1,7 +1,7 @@
 -- A completion makes of the record that the facts describe the one that they describe after it.
-use Prim.Native.Nat.{ℕ, _+_, _-_, _%_, _<_}
+use Prim.Native.Nat.{ℕ, _+_, _-_, _*_, _%_, _<_}
 use mathlib.Core.Path.{_≡_, refl, sym, ap, _∙_}
-use mathlib.Core.Bool.{Bool, true, false, cond, _&&_}
+use mathlib.Core.Bool.{Bool, true, false, cond, not, _&&_}
 use mathlib.Core.List.{List, _∷_}
 use mathlib.Core.Option.{Option, none, some}
 use native.Mathlib.Nat.{zero-add}
@@ -9,24 +9,26 @@ use native.Mathlib.Omega.{arith}
 use lib.Dec.{eqb}
 use lib.ListN.{getD, set}
 use borrow.Author.Tests.{eq-eqb, ne-eqb, eqb-true, eqb-false}
-use Rattle.logpage.specs.Fields.{unset, noDebugLog, each}
+use Rattle.logpage.specs.Fields.{unset, noDebugLog, from, each}
 use Rattle.monitor.specs.declared.commands.Command.{Command}
 use Rattle.monitor.specs.declared.record.Monitor.{Monitor}
-use Rattle.monitor.specs.Commands.{counterOf, millisecondsOf}
-use Rattle.monitor.specs.Counting.{bit, onceMore, loads, triggers, debugLog}
+use Rattle.monitor.specs.declared.report.WindowChoice.the-variants.{Active, Static}
+use Rattle.monitor.specs.Commands.{kindOf, reachesA, counterOf, belowAOf, millisecondsOf}
+use Rattle.monitor.specs.Counting.{bit, onceMoreAt, countedBelowA, loads, triggers, debugLog}
 use Rattle.monitor.specs.Claims.{loadedOf, recordOf}
 use Rattle.monitor.specs.Facts.{inForce, clockAt, hostSetAt, timerThreshold, enabledTime, windowAt, timerAt}
-use Rattle.monitor.specs.Facts.{Counted, countedAt, filter, activeFor, staticFor, active, static, countOf}
+use Rattle.monitor.specs.Facts.{Completed, completedAt, sinceEnabled, Counted, counted, countedAt, countedSince}
+use Rattle.monitor.specs.Facts.{filter, filterMap, activeFor, staticFor, active, static, countOf, ofKindBelowA, belowACounts}
 use Rattle.monitor.specs.Facts.{loadsAfter, orLoad, lastLoad, stampOf, latencyOf, windowFrom}
-use Rattle.monitor.specs.Facts.{discardIn, triggered, orEarliest, earliest, logOf, debugAt, sinceEnabled}
-use Rattle.monitor.specs.History.{completed, Past, found, andThen, latest, since}
+use Rattle.monitor.specs.Facts.{discardIn, triggered, orEarliest, earliest, logOf, debugAt}
+use Rattle.monitor.specs.History.{completed, Past, found, onlyIf, andThen, latest, since}
 use Rattle.monitor.specs.Record.{afterCompletion}
 use Rattle.monitor.specs.Timer.{inWindow}
-use Rattle.monitor.proofs.commands.Laws.{counter-below, counter-enabled}
-use Rattle.monitor.proofs.record.Laws.{decide}
-use Rattle.monitor.proofs.histories.Facts.{Good, fine, Here, here, span, into, clock-top, last-load-all}
-use Rattle.monitor.proofs.histories.Facts.{described}
-use Rattle.monitor.proofs.histories.Lists.{All, Some, all-those, from-at, from-same, from-set}
+use Rattle.monitor.proofs.commands.Laws.{Sorted, slow, fast, kindless, disabled, sorted}
+use Rattle.monitor.proofs.record.Laws.{decide, not-counted}
+use Rattle.monitor.proofs.histories.Facts.{Good, fine-counted, Here, here, span, into, clock-top, last-load-all}
+use Rattle.monitor.proofs.histories.Facts.{described, fast-within, fast-preceding}
+use Rattle.monitor.proofs.histories.Lists.{All, Some, all-those, from-at, from-same, from-stored, counts-stored}
 use Rattle.monitor.proofs.histories.Windows.{in-window}
 
 -- the time in the active window, as the record has it
@@ -49,7 +51,7 @@ module _ (past : Past) (c : Command) (n : ℕ) where
 
   -- the completions of counter k in the active window, and this one
   abbrev joined : ℕ → List Counted
-  joined k = filter (activeFor past k) (here-counted ∷ sinceEnabled past)
+  joined k = filter (activeFor past k) (here-counted ∷ countedSince past)
 
   abbrev mine : List Counted
   mine = active past n
@@ -72,13 +74,7 @@ module _ (past : Past) (c : Command) (n : ℕ) where
 
     pub stored : (v : A) → v ≡ f (here-counted ∷ mine) → set before-it n v ≡ with-it
     stored v e =
-        rw (from-set 0 12 (λ k. f (active past k)) n v, zero-add n) (from-same 0 12 _ _ (λ k l h. by k (eqb k n) refl))
-      where
-        by : (k : ℕ) (b : Bool) → eqb k n ≡ b → cond b v (f (active past k)) ≡ f (joined k)
-        by k true q =
-            let same : k ≡ n = eqb-true k n q in
-            e ∙ ap f (sym (joins k same ∙ ap (λ j. here-counted ∷ active past j) same))
-        by k false q = ap f (sym (leaves k (eqb-false k n q)))
+        from-stored 12 _ _ n v (e ∙ ap f (sym (joins n refl))) (λ k other. ap f (sym (leaves k other)))
 
     pub kept : f mine ≡ f (here-counted ∷ mine) → before-it ≡ with-it
     kept e = from-same 0 12 _ _ (λ k l h. by k (eqb k n) refl)
@@ -104,11 +100,8 @@ module _ (past : Past) (c : Command) (n : ℕ) where
 
   pub counted-more :
       n < 12 →
-      set (each (λ k. countOf (active past k))) n (onceMore (getD (each (λ k. countOf (active past k))) n 0)) ≡
-      each (λ k. countOf (joined k))
-  unfolding countOf
-  counted-more few =
-      rw (from-at 0 12 (λ k. countOf (active past k)) n 0 few, zero-add n) (stored countOf _ (omega arith))
+      onceMoreAt (each (λ k. countOf (active past k))) n ≡ each (λ k. countOf (joined k))
+  counted-more few = counts-stored 12 _ _ n here-counted few (joins n refl) (λ k other. sym (leaves k other))
 
   -- the rule and the fact agree on what is a load
   pub loads-is :
@@ -139,7 +132,7 @@ module _ (past : Past) (c : Command) (n : ℕ) where
       by (some y) k = rw (ne-eqb (clockAt (y .before)) unset (λ e. omega (arith, clock-top (y .before))), ← k)
 
   -- the last finished window does not take it in
-  pub left-out : (k : ℕ) → filter (staticFor past k) (here-counted ∷ sinceEnabled past) ≡ static past k
+  pub left-out : (k : ℕ) → filter (staticFor past k) (here-counted ∷ countedSince past) ≡ static past k
   unfolding filter static
   left-out k = rw (ne-eqb (windowAt past + 1) (windowAt past) (λ e. omega arith))
 
@@ -167,47 +160,130 @@ module _ (past : Past) (c : Command) (n : ℕ) where
 
 all-active : (past : Past) → Good past → inForce past .enabled ≡ true → (n : ℕ) → All (Here past) (active past n)
 unfolding active
-all-active past g on n = all-those (activeFor past n) (λ x t f. here past on n x t f) (sinceEnabled past) (fine past g)
+all-active past g on n =
+    all-those (activeFor past n) (λ x t f. here past on n x t f) (countedSince past) (fine-counted past g)
 
--- the facts after a completion, by the counter that it counts for
-abbrev found-at : Past → Command → Option ℕ → Option Counted
-found-at past c o = found none (λ n. some (record { counter = n; command = c; before = past })) o
+-- the counts below threshold A with an enabled completion of a kind in the active window
+module _ (past : Past) (c : Command) (kind : ℕ) where
+  abbrev here-completed : Completed
+  here-completed = record { kind = kind; command = c; before = past }
 
-abbrev after-it : Past → Command → Option ℕ → Monitor
-after-it past c o =
+  -- the active window's, and this one; and the static window's
+  abbrev fast-joined : ℕ → List Completed
+  fast-joined k = filter (fast-within (windowAt past) k) (here-completed ∷ sinceEnabled past)
+
+  abbrev fast-finished : ℕ → List Completed
+  fast-finished k = filter (fast-preceding (windowAt past) k) (here-completed ∷ sinceEnabled past)
+
+  -- it is not in the static window
+  finished-before : (k : ℕ) → ofKindBelowA Static past k ≡ fast-finished k
+  unfolding filter ofKindBelowA
+  finished-before k = rw (ne-eqb (windowAt past + 1) (windowAt past) (λ e. omega arith))
+
+  static-kept : belowACounts Static past ≡ from 0 3 (λ k. countOf (fast-finished k))
+  unfolding belowACounts
+  static-kept = λ i. from 0 3 (λ k. countOf (finished-before k i))
+
+  module _ (reached : Bool) (e : reachesA (inForce past .thresholds) c ≡ reached) where
+    -- the test of this one
+    here-passes :
+        (k : ℕ) (b : Bool) →
+        eqb kind k ≡ b →
+        fast-within (windowAt past) k here-completed ≡ (b && not reached)
+    here-passes k b q = rw (eq-eqb (windowAt past) (windowAt past) refl, q, e)
+
+    other-kind : (k : ℕ) → (k ≡ kind → ⊥) → ofKindBelowA Active past k ≡ fast-joined k
+    unfolding filter ofKindBelowA
+    other-kind k other = rw (here-passes k false (ne-eqb kind k (λ q. other (sym q))))
+
+  slow-kept :
+      reachesA (inForce past .thresholds) c ≡ true →
+      belowACounts Active past ≡ from 0 3 (λ k. countOf (fast-joined k))
+  unfolding belowACounts ofKindBelowA filter
+  slow-kept reached = λ i. from 0 3 (λ k. countOf (by k (eqb kind k) refl i))
+    where
+      none-pass : (b : Bool) → (b && false) ≡ false
+      none-pass true = refl
+      none-pass false = refl
+
+      by : (k : ℕ) (b : Bool) → eqb kind k ≡ b → ofKindBelowA Active past k ≡ fast-joined k
+      by k b q = rw (here-passes true reached k b q, none-pass b)
+
+  fast-more :
+      kind < 3 →
+      reachesA (inForce past .thresholds) c ≡ false →
+      onceMoreAt (belowACounts Active past) kind ≡ from 0 3 (λ k. countOf (fast-joined k))
+  unfolding belowACounts ofKindBelowA filter
+  fast-more few below =
+      counts-stored 3 (ofKindBelowA Active past) fast-joined kind here-completed few this
+      (other-kind false below)
+    where
+      this : fast-joined kind ≡ here-completed ∷ ofKindBelowA Active past kind
+      this = rw (here-passes false below kind true (eq-eqb kind kind refl))
+
+-- the facts after a completion, by what it is if it is enabled and of a kind
+abbrev after-it : Past → Option Completed → Monitor
+after-it past o =
     described (inForce past) (timerAt past) (hostSetAt past) (enabledTime past % 300000) (clockAt past)
-    (found noDebugLog logOf (earliest (filter triggered
-    (andThen (found-at past c o) (since discardIn countedAt past)))))
+    (found noDebugLog logOf (earliest (filter triggered (andThen (found none counted o) (since discardIn countedAt past)))))
     (windowAt past)
-    (andThen (found-at past c o) (sinceEnabled past))
+    (andThen o (sinceEnabled past))
 
 facts-after :
     (past : Past) (c : Command) →
-    recordOf (completed c ∷ past) ≡ after-it past c (counterOf (inForce past) c)
-unfolding recordOf inForce clockAt hostSetAt timerAt windowAt enabledTime timerThreshold active static debugAt since latest
+    recordOf (completed c ∷ past) ≡ after-it past (completedAt (completed c) past)
+unfolding recordOf inForce clockAt hostSetAt timerAt windowAt enabledTime timerThreshold active static belowACounts ofKindBelowA debugAt since latest
 facts-after past c = refl
 
-not-counted-step :
+-- a completion of no kind, or while disabled
+uncounted-step :
     (past : Past) (c : Command) →
     counterOf (inForce past) c ≡ none →
-    afterCompletion (recordOf past) c ≡ after-it past c none
-unfolding afterCompletion recordOf active static debugAt
-not-counted-step past c e = rw e
+    belowAOf (inForce past) c ≡ none →
+    afterCompletion (recordOf past) c ≡ after-it past none
+unfolding recordOf active static belowACounts ofKindBelowA debugAt
+uncounted-step past c e none-below =
+    sym (not-counted (recordOf past) c (belowACounts Active past) e (rw none-below) .0)
 
-counted-step :
+fast-step :
+    (past : Past) (c : Command) (k : ℕ) →
+    k < 3 →
+    reachesA (inForce past .thresholds) c ≡ false →
+    counterOf (inForce past) c ≡ none →
+    belowAOf (inForce past) c ≡ some k →
+    afterCompletion (recordOf past) c ≡ after-it past (some (here-completed past c k))
+unfolding recordOf active static debugAt filterMap
+fast-step past c k few below e kind =
+    rw e (sym (not-counted (recordOf past) c (onceMoreAt (belowACounts Active past) k) e (rw kind) .0) ∙
+    (λ i. record {
+      settings = inForce past;
+      timer = timerAt past;
+      «host_set» = hostSetAt past;
+      partial = enabledTime past % 300000;
+      clock = clockAt past;
+      loaded = recordOf past .loaded;
+      debug = debugAt past;
+      «active_below_a» = fast-more past c k few below i;
+      «static_below_a» = static-kept past c k i;
+      «static_window» = windowFrom (static past);
+      «active_window» = windowFrom (active past);
+    }))
+
+slow-step :
     (past : Past) →
     Good past →
-    (c : Command) (n : ℕ) →
+    (c : Command) (k n : ℕ) →
+    n < 12 →
+    inForce past .enabled ≡ true →
+    reachesA (inForce past .thresholds) c ≡ true →
     counterOf (inForce past) c ≡ some n →
-    afterCompletion (recordOf past) c ≡ after-it past c (some n)
-unfolding recordOf
-counted-step past g c n e =
-    let few = counter-below (inForce past) c n e in
-    let on = counter-enabled (inForce past) c n e in
+    afterCompletion (recordOf past) c ≡ after-it past (some (here-completed past c k))
+unfolding recordOf filterMap
+slow-step past g c k n few on reached e =
     let all : All (Here past) (active past n) = all-active past g on n in
     let load = loads-is past c n few all in
     let decided = decide (recordOf past) c n (millisecondsOf c) _ _ _ _ e refl refl refl refl (sym load) in
-    sym (rw (now-is past) at (decided .next)) ∙
+    rw e (sym (rw (now-is past) at (decided .next)) ∙
     (λ i. record {
       settings = inForce past;
       timer = timerAt past;
@@ -216,7 +292,9 @@ counted-step past g c n e =
       clock = clockAt past;
       loaded = written past c n 0 into _ refl i;
       debug = logs past c n i;
-      «static_window» = windowFrom (λ k. sym (left-out past c n k) i);
+      «active_below_a» = slow-kept past c k reached i;
+      «static_below_a» = static-kept past c k i;
+      «static_window» = windowFrom (λ j. sym (left-out past c n j) i);
       «active_window» =
           record {
             counters = counted-more past c n few i;
@@ -224,15 +302,25 @@ counted-step past g c n e =
             latencies = written past c n 0 (λ x. millisecondsOf (x .command)) _ refl i;
             units = written past c n false (λ x. hostSetAt (x .before)) _ refl i;
           };
-    })
+    }))
 
 pub completion-step :
     (past : Past) →
     Good past →
     (c : Command) →
     afterCompletion (recordOf past) c ≡ recordOf (completed c ∷ past)
-completion-step past g c = by (counterOf (inForce past) c) refl ∙ sym (facts-after past c)
+completion-step past g c = by (sorted (inForce past) c) ∙ sym (facts-after past c)
   where
-    by : (o : Option ℕ) → counterOf (inForce past) c ≡ o → afterCompletion (recordOf past) c ≡ after-it past c o
-    by none e = not-counted-step past c e
-    by (some n) e = counted-step past g c n e
+    to-facts : (o : Option Completed) → completedAt (completed c) past ≡ o → after-it past o ≡ after-it past (completedAt (completed c) past)
+    to-facts o e = ap (after-it past) (sym e)
+
+    no-one : (o : Option ℕ) → found none (λ k. onlyIf false (here-completed past c k)) o ≡ none
+    no-one none = refl
+    no-one (some k) = refl
+
+    by : Sorted (inForce past) c → afterCompletion (recordOf past) c ≡ after-it past (completedAt (completed c) past)
+    by (slow k b few low on kind reached e) =
+        slow-step past g c k (3 * b + k) (omega arith) on reached e ∙ to-facts (some (here-completed past c k)) (rw (kind, on))
+    by (fast k few on kind below e e') = fast-step past c k few below e e' ∙ to-facts (some (here-completed past c k)) (rw (kind, on))
+    by (kindless kind e e') = uncounted-step past c e e' ∙ to-facts none (rw kind)
+    by (disabled off e e') = uncounted-step past c e e' ∙ to-facts none (rw off (no-one (kindOf c)))

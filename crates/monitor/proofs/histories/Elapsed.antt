@@ -5,25 +5,27 @@ use mathlib.Core.Bool.{Bool, true, false, cond}
 use mathlib.Core.List.{List, [], _∷_}
 use native.Mathlib.Numerals.{add-one}
 use native.Mathlib.Omega.{arith}
-use lib.Dec.{leb, eqb·suc-suc, ltb}
+use lib.Dec.{eqb, leb, eqb·suc-suc, ltb}
 use lib.ListN.{replicate}
 use borrow.Author.Tests.{ne-eqb, lt-ltb, le-ltb, le-leb, lt-leb, leb-true, leb-false}
-use Rattle.logpage.specs.Fields.{emptyWindow, each}
+use Rattle.logpage.specs.Fields.{emptyWindow, from, each}
 use Rattle.monitor.specs.declared.record.Monitor.{Monitor}
+use Rattle.monitor.specs.declared.report.WindowChoice.the-variants.{Active}
 use Rattle.monitor.specs.declared.timer.Tick.{Tick}
 use Rattle.monitor.specs.Claims.{loadedOf, recordOf}
 use Rattle.monitor.specs.Facts.{inForce, sum, clockAt, hostSetAt, timerThreshold, enabledTime, windowAt, timerAt}
-use Rattle.monitor.specs.Facts.{Counted}
-use Rattle.monitor.specs.Facts.{filter, activeFor, active, static, countOf, lastLoad, stampOf, latencyOf, unitsOf}
-use Rattle.monitor.specs.Facts.{windowFrom, debugAt, sinceEnabled}
+use Rattle.monitor.specs.Facts.{Counted, countedSince, sinceEnabled, filter, activeFor, active, static}
+use Rattle.monitor.specs.Facts.{countOf, lastLoad, stampOf, latencyOf, unitsOf, windowFrom, debugAt}
+use Rattle.monitor.specs.Facts.{ofKindBelowA, belowACounts}
 use Rattle.monitor.specs.History.{passed, Past, latest, since}
 use Rattle.monitor.specs.Answers.{ended}
-use Rattle.monitor.specs.Record.{noLoads, afterElapsed, elapsedAnswer}
+use Rattle.monitor.specs.Record.{noLoads, noneBelowA, afterElapsed, elapsedAnswer}
 use Rattle.monitor.specs.Timer.{grown, tick, ticked}
 use Rattle.monitor.proofs.record.Laws.{moved, elapsed-accepted}
-use Rattle.monitor.proofs.histories.Facts.{Good, Fine, fine, span, enabled-threshold, enabled-positive, within}
-use Rattle.monitor.proofs.histories.Facts.{preceding, described}
-use Rattle.monitor.proofs.histories.Lists.{from-replicate, those-same, those-none}
+use Rattle.monitor.proofs.histories.Facts.{Good, Fine, FineAt, fine, fine-counted, span, enabled-threshold}
+use Rattle.monitor.proofs.histories.Facts.{enabled-positive, within, preceding, fast-within, fast-preceding}
+use Rattle.monitor.proofs.histories.Facts.{described}
+use Rattle.monitor.proofs.histories.Lists.{those-same, none-pass}
 use Rattle.monitor.proofs.histories.Windows.{none-taken, none-partial, none-window, one-taken, one-partial}
 use Rattle.monitor.proofs.histories.Windows.{goes-on, ends, ends-timer, one-more}
 
@@ -47,39 +49,36 @@ unfolding clockAt latest since sum
 clock-after past ms = omega arith
 
 facts-after : (past : Past) (ms : ℕ) → recordOf (passed ms ∷ past) ≡ after-time past ms (enabledTime (passed ms ∷ past))
-unfolding recordOf inForce hostSetAt timerAt windowAt timerThreshold active static debugAt latest since
+unfolding recordOf inForce hostSetAt timerAt windowAt timerThreshold active static belowACounts ofKindBelowA debugAt latest since
 facts-after past ms =
     ap (λ n. described (inForce past) (timerAt (passed ms ∷ past)) (hostSetAt past)
     (enabledTime (passed ms ∷ past) % 300000) n (debugAt past) (windowAt (passed ms ∷ past)) (sinceEnabled past))
     (clock-after past ms)
 
+-- no place is in the next window
+late : (past place : Past) → Fine past place → eqb (windowAt place) (suc (windowAt past)) ≡ false
+late past place h = ne-eqb (windowAt place) (suc (windowAt past)) (λ e. omega (arith, h .early))
+
 -- what a window's end makes of what is asked of each counter's completions
 module _ (past : Past) (g : Good past) {A : Type 0} (f : List Counted → A) where
-  emptied : replicate 12 (f []) ≡ each (λ k. f (filter (within (suc (windowAt past)) k) (sinceEnabled past)))
-  emptied = sym (from-replicate 0 12 _ (f []) (λ k. ap f (nothing-late k)))
-    where
-      late : (k : ℕ) (x : Counted) → Fine past x → within (suc (windowAt past)) k x ≡ false
-      late k x h = rw (ne-eqb (windowAt (x .before)) (suc (windowAt past)) (λ e. omega (arith, h .early)))
-
-      nothing-late : (k : ℕ) → filter (within (suc (windowAt past)) k) (sinceEnabled past) ≡ []
-      nothing-late k =
-          those-none (within (suc (windowAt past)) k) (Fine past) (late k) (sinceEnabled past) (fine past g)
+  emptied : replicate 12 (f []) ≡ each (λ k. f (filter (within (suc (windowAt past)) k) (countedSince past)))
+  emptied = none-pass 12 (within (suc (windowAt past))) _ (λ k x h. rw (late past (x .before) h)) _ (fine-counted past g) f
 
 handed-on :
     (past : Past) →
     Good past →
     (k : ℕ) →
-    active past k ≡ filter (preceding (suc (windowAt past)) k) (sinceEnabled past)
+    active past k ≡ filter (preceding (suc (windowAt past)) k) (countedSince past)
 unfolding active
 handed-on past g k =
-    those-same (activeFor past k) (Fine past) (preceding (suc (windowAt past)) k)
+    those-same (activeFor past k) (λ (x : Counted). Fine past (x .before)) (preceding (suc (windowAt past)) k)
     (λ x h. rw (add-one, eqb·suc-suc (windowAt (x .before)) (windowAt past)))
-    (sinceEnabled past) (fine past g)
+    (countedSince past) (fine-counted past g)
 
 empty-handed :
     (past : Past) →
     Good past →
-    emptyWindow ≡ windowFrom (λ k. filter (within (suc (windowAt past)) k) (sinceEnabled past))
+    emptyWindow ≡ windowFrom (λ k. filter (within (suc (windowAt past)) k) (countedSince past))
 unfolding emptyWindow countOf lastLoad
 empty-handed past g =
     λ i. record {
@@ -92,9 +91,30 @@ empty-handed past g =
 no-loads :
     (past : Past) →
     Good past →
-    noLoads ≡ each (λ k. loadedOf (lastLoad (filter (within (suc (windowAt past)) k) (sinceEnabled past))))
+    noLoads ≡ each (λ k. loadedOf (lastLoad (filter (within (suc (windowAt past)) k) (countedSince past))))
 unfolding lastLoad
 no-loads past g = emptied past g (λ xs. loadedOf (lastLoad xs))
+
+-- and of the counts below threshold A
+fast-emptied :
+    (past : Past) →
+    Good past →
+    noneBelowA ≡ from 0 3 (λ k. countOf (filter (fast-within (suc (windowAt past)) k) (sinceEnabled past)))
+unfolding countOf
+fast-emptied past g =
+    none-pass 3 (fast-within (suc (windowAt past))) (FineAt past) (λ k x h. rw (late past (x .before) h))
+    (sinceEnabled past) (fine past g) countOf
+
+fast-handed-on :
+    (past : Past) →
+    Good past →
+    (k : ℕ) →
+    ofKindBelowA Active past k ≡ filter (fast-preceding (suc (windowAt past)) k) (sinceEnabled past)
+unfolding ofKindBelowA
+fast-handed-on past g k =
+    those-same (fast-within (windowAt past) k) (FineAt past) (fast-preceding (suc (windowAt past)) k)
+    (λ x h. rw (add-one (windowAt (x .before)), eqb·suc-suc (windowAt (x .before)) (windowAt past)))
+    (sinceEnabled past) (fine past g)
 
 -- the timer's cases
 module _ (threshold timer partial ms : ℕ) where
@@ -151,7 +171,7 @@ module _ (past : Past) (g : Good past) (ms : ℕ) (fits : ms ≤ 300000) where
   next-window u e = sym (lt-ltb (windowAt past) (u / span past) (omega (arith, e)))
 
   off : inForce past .enabled ≡ false → Comes t
-  unfolding recordOf timerAt windowAt active static
+  unfolding recordOf timerAt windowAt active static belowACounts ofKindBelowA
   off e =
       comes t (tick (timerAt past) (t % 300000) false) false (rw e (tick-off _ (timerAt past) (t % 300000) ms)) refl
       (same-window t refl) refl
@@ -161,7 +181,7 @@ module _ (past : Past) (g : Good past) (ms : ℕ) (fits : ms ≤ 300000) where
     positive = enabled-positive past g on
 
     few : t % 300000 + ms < 300000 → Comes (t + ms)
-    unfolding recordOf timerAt windowAt active static
+    unfolding recordOf timerAt windowAt active static belowACounts ofKindBelowA
     few h =
         comes (t + ms) (tick (timerAt past) (t % 300000 + ms) false) false
         (rw on (tick-few _ (timerAt past) (t % 300000) ms h)) refl
@@ -170,7 +190,7 @@ module _ (past : Past) (g : Good past) (ms : ℕ) (fits : ms ≤ 300000) where
 
     module _ (many : 300000 ≤ t % 300000 + ms) where
       more : timerAt past + 1 < p → Comes (t + ms)
-      unfolding recordOf timerAt windowAt active static
+      unfolding recordOf timerAt windowAt active static belowACounts ofKindBelowA
       more h =
           comes (t + ms) (tick (timerAt past + 1) (t % 300000 + ms - 300000) false) false
           (rw (on, enabled-threshold past on) (tick-more p (timerAt past) (t % 300000) ms many h)) refl
@@ -178,7 +198,7 @@ module _ (past : Past) (g : Good past) (ms : ℕ) (fits : ms ≤ 300000) where
           (rw (goes-on t ms fits many p positive h, one-partial t ms fits many, one-taken t ms fits many, one-more t p))
 
       end : p ≤ timerAt past + 1 → Comes (t + ms)
-      unfolding recordOf timerAt windowAt
+      unfolding recordOf timerAt windowAt belowACounts
       end h =
           comes (t + ms) (tick 0 (t % 300000 + ms - 300000) true) true
           (rw (on, enabled-threshold past on) (tick-end p (timerAt past) (t % 300000) ms many h)) refl
@@ -192,6 +212,8 @@ module _ (past : Past) (g : Good past) (ms : ℕ) (fits : ms ≤ 300000) where
             clock = grown (clockAt past) ms;
             loaded = no-loads past g i;
             debug = debugAt past;
+            «active_below_a» = fast-emptied past g i;
+            «static_below_a» = from 0 3 (λ k. countOf (fast-handed-on past g k i));
             «static_window» = windowFrom (λ k. handed-on past g k i);
             «active_window» = empty-handed past g i;
           }))

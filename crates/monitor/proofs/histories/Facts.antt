@@ -8,21 +8,21 @@ use native.Mathlib.Nat.{div-add-mod'}
 use native.Mathlib.Omega.{arith}
 use borrow.Author.Tests.{eqb-true}
 use lib.Dec.{eqb}
-use Rattle.logpage.specs.Fields.{noSettings, each}
+use Rattle.logpage.specs.Fields.{noSettings, from, each}
 use Rattle.logpage.specs.declared.DebugLog.{DebugLog}
 use Rattle.logpage.specs.declared.Settings.{Settings}
 use Rattle.monitor.specs.declared.record.Monitor.{Monitor}
-use Rattle.monitor.specs.Commands.{counterOf}
-use Rattle.monitor.specs.Claims.{loadedOf, recordOf}
-use Rattle.monitor.specs.Facts.{inForce, sum, time, clockAt, hostSetAt, timerThreshold, enabledTime, windowAt}
-use Rattle.monitor.specs.Facts.{timerAt}
-use Rattle.monitor.specs.Facts.{Counted, filter, activeFor, active, static, orLoad, loadsAfter, lastLoad}
-use Rattle.monitor.specs.Facts.{windowFrom, debugAt, sinceEnabled}
+use Rattle.monitor.specs.Commands.{kindOf, counterOf}
+use Rattle.monitor.specs.Claims.{loadedOf}
+use Rattle.monitor.specs.Facts.{inForce, sum, time, clockAt, timerThreshold, enabledTime, windowAt}
+use Rattle.monitor.specs.Facts.{Completed, sinceEnabled, Counted, counted, filter, filterMap}
+use Rattle.monitor.specs.Facts.{countedSince, activeFor, countOf, orLoad, loadsAfter, lastLoad, windowFrom}
+use Rattle.monitor.specs.Facts.{isBelowA}
 use Rattle.monitor.specs.History.{Effect, configured, completed, passed, clockSet, poweredUp, nothing, Past}
 use Rattle.monitor.specs.History.{unlessFound, onlyIf}
 use Rattle.monitor.specs.History.{found, latest, since, andThen}
 use Rattle.monitor.specs.Settings.{decoded}
-use Rattle.monitor.proofs.histories.Lists.{All, Some, all-map}
+use Rattle.monitor.proofs.histories.Lists.{All, Some, all-map, all-found}
 use Rattle.monitor.proofs.histories.Windows.{later}
 
 -- what acceptance says of an effect
@@ -74,14 +74,17 @@ span past = 300000 * timerThreshold past
 abbrev pub into : Counted → ℕ
 into x = enabledTime (x .before) % span (x .before)
 
--- what holds of each counted completion since the monitor was enabled
-pub record Fine (past : Past) (x : Counted) : Type 0 where
-  pub early : windowAt (x .before) ≤ windowAt past
+-- what holds of the place of each completion since the monitor was enabled
+pub record Fine (past place : Past) : Type 0 where
+  pub early : windowAt place ≤ windowAt past
   pub apart :
       inForce past .enabled ≡ true →
-      windowAt (x .before) * span past + into x + time past ≡ time (x .before) + enabledTime past
+      windowAt place * span past + enabledTime place % span place + time past ≡ time place + enabledTime past
 
-pub fine : (past : Past) → Good past → All (Fine past) (sinceEnabled past)
+abbrev pub FineAt : Past → Completed → Type 0
+FineAt past x = Fine past (x .before)
+
+pub fine : (past : Past) → Good past → All (FineAt past) (sinceEnabled past)
 unfolding since windowAt inForce time enabledTime timerThreshold latest sum
 fine [] g = tt
 fine (configured s ∷ past) g = go (decoded s .enabled) refl (fine past (g .1))
@@ -89,23 +92,24 @@ fine (configured s ∷ past) g = go (decoded s .enabled) refl (fine past (g .1))
     go :
         (b : Bool) →
         decoded s .enabled ≡ b →
-        All (Fine past) (sinceEnabled past) →
-        All (Fine (configured s ∷ past)) (unlessFound (onlyIf b (decoded s)) (sinceEnabled past))
+        All (FineAt past) (sinceEnabled past) →
+        All (FineAt (configured s ∷ past)) (unlessFound (onlyIf b (decoded s)) (sinceEnabled past))
     go true e f = tt
     go false e f =
         all-map (λ x k. record { early = rw e (k .early); apart = λ on. absurd (true≢false (sym on ∙ e)) })
         (sinceEnabled past) f
-fine (completed c ∷ past) g = go (counterOf (inForce past) c) (fine past (g .1))
+fine (completed c ∷ past) g = go (kindOf c) (inForce past .enabled) (fine past (g .1))
   where
-    same : All (Fine past) (sinceEnabled past) → All (Fine (completed c ∷ past)) (sinceEnabled past)
+    same : All (FineAt past) (sinceEnabled past) → All (FineAt (completed c ∷ past)) (sinceEnabled past)
     same f = all-map (λ x k. record { early = k .early; apart = k .apart }) (sinceEnabled past) f
 
     go :
-        (n : Option ℕ) →
-        All (Fine past) (sinceEnabled past) →
-        All (Fine (completed c ∷ past)) (andThen (found none (λ m. some (record { counter = m; command = c; before = past })) n) (sinceEnabled past))
-    go none f = same f
-    go (some n) f = (
+        (o : Option ℕ) (b : Bool) →
+        All (FineAt past) (sinceEnabled past) →
+        All (FineAt (completed c ∷ past)) (andThen (found none (λ k. onlyIf b (record { kind = k; command = c; before = past })) o) (sinceEnabled past))
+    go none b f = same f
+    go (some k) false f = same f
+    go (some k) true f = (
       record { early = omega arith; apart = λ on. omega (arith, div-add-mod' (enabledTime past) (span past)) },
       same f,
     )
@@ -114,8 +118,8 @@ fine (passed ms ∷ past) g = go (inForce past .enabled) refl (fine past (g .1))
     go :
         (b : Bool) →
         inForce past .enabled ≡ b →
-        All (Fine past) (sinceEnabled past) →
-        All (Fine (passed ms ∷ past)) (sinceEnabled past)
+        All (FineAt past) (sinceEnabled past) →
+        All (FineAt (passed ms ∷ past)) (sinceEnabled past)
     go true q f =
         all-map
         (λ x k. record {
@@ -138,6 +142,21 @@ fine (poweredUp ∷ past) g =
     all-map (λ x k. record { early = k .early; apart = k .apart }) (sinceEnabled past) (fine past (g .1))
 fine (nothing ∷ past) g =
     all-map (λ x k. record { early = k .early; apart = k .apart }) (sinceEnabled past) (fine past (g .1))
+
+-- and so of the counted ones among them
+pub fine-counted : (past : Past) → Good past → All (λ (x : Counted). Fine past (x .before)) (countedSince past)
+fine-counted past g =
+    all-found (FineAt past) (λ (y : Counted). Fine past (y .before)) counted
+    (λ x k. by x k (counterOf (inForce (x .before)) (x .command))) (sinceEnabled past) (fine past g)
+  where
+    by :
+        (x : Completed) →
+        FineAt past x →
+        (o : Option ℕ) →
+        Some (λ (y : Counted). Fine past (y .before))
+        (found none (λ n. some (record { counter = n; command = x .command; before = x .before })) o)
+    by x k none = tt
+    by x k (some n) = k
 
 pub last-load-all : (P : Counted → Type 0) (xs : List Counted) → All P xs → Some P (lastLoad xs)
 unfolding lastLoad
@@ -165,7 +184,7 @@ pub here :
     inForce past .enabled ≡ true →
     (n : ℕ) (x : Counted) →
     activeFor past n x ≡ true →
-    Fine past x →
+    Fine past (x .before) →
     Here past x
 unfolding windowAt
 here past on n x t f =
@@ -179,12 +198,19 @@ within w k x = eqb (windowAt (x .before)) w && eqb (x .counter) k
 abbrev pub preceding : ℕ → ℕ → Counted → Bool
 preceding w k x = eqb (windowAt (x .before) + 1) w && eqb (x .counter) k
 
--- the record that facts describe, w the number of the active window, xs the completions counted since it was enabled
+-- those of a kind below threshold A in window w, and in the one before w
+abbrev pub fast-within : ℕ → ℕ → Completed → Bool
+fast-within w k x = (eqb (windowAt (x .before)) w && eqb (x .kind) k) && isBelowA x
+
+abbrev pub fast-preceding : ℕ → ℕ → Completed → Bool
+fast-preceding w k x = (eqb (windowAt (x .before) + 1) w && eqb (x .kind) k) && isBelowA x
+
+-- the record that facts describe, w the number of the active window, xs the completions since the monitor was enabled
 abbrev pub described :
     Settings →
     (timer : ℕ) (hostSet : Bool) (partial clock : ℕ) →
     DebugLog →
-    (w : ℕ) (xs : List Counted) →
+    (w : ℕ) (xs : List Completed) →
     Monitor
 described settings timer hostSet partial clock debug w xs =
     record {
@@ -193,17 +219,10 @@ described settings timer hostSet partial clock debug w xs =
       «host_set» = hostSet;
       partial = partial;
       clock = clock;
-      loaded = each (λ k. loadedOf (lastLoad (filter (within w k) xs)));
+      loaded = each (λ k. loadedOf (lastLoad (filter (within w k) (filterMap counted xs))));
       debug = debug;
-      «static_window» = windowFrom (λ k. filter (preceding w k) xs);
-      «active_window» = windowFrom (λ k. filter (within w k) xs);
+      «active_below_a» = from 0 3 (λ k. countOf (filter (fast-within w k) xs));
+      «static_below_a» = from 0 3 (λ k. countOf (filter (fast-preceding w k) xs));
+      «static_window» = windowFrom (λ k. filter (preceding w k) (filterMap counted xs));
+      «active_window» = windowFrom (λ k. filter (within w k) (filterMap counted xs));
     }
-
-pub as-described :
-    (past : Past) →
-    recordOf past ≡
-    described (inForce past) (timerAt past) (hostSetAt past) (enabledTime past % 300000) (clockAt past) (debugAt past)
-    (windowAt past)
-    (sinceEnabled past)
-unfolding recordOf active static
-as-described past = refl

@@ -13,8 +13,9 @@ use Rattle.monitor.specs.declared.record.Monitor.{Monitor}
 use Rattle.monitor.specs.Answers.{refused, ended, unlessRefused}
 use Rattle.monitor.specs.Claims.{recordOf, PlayedAsFacts, WindowEnds}
 use Rattle.monitor.specs.Facts.{inForce, sum, clockAt, hostSetAt, timerThreshold, enabledTime, windowAt, timerAt}
-use Rattle.monitor.specs.Facts.{Counted, countedAt, filter, active, static, countOf, lastLoad, discardIn}
-use Rattle.monitor.specs.Facts.{triggered, earliest, logOf, debugAt, sinceEnabled}
+use Rattle.monitor.specs.Facts.{Completed, sinceEnabled, countedAt, filter, filterMap, active, static, countOf}
+use Rattle.monitor.specs.Facts.{lastLoad, discardIn, triggered, earliest, logOf, debugAt, ofKindBelowA, belowACounts}
+use Rattle.monitor.specs.History as calls
 use Rattle.monitor.specs.History.{Call, settings, completion, elapsed, clock, powerUp, page, settingsBack}
 use Rattle.monitor.specs.History.{History, after, playFrom, Effect, configured, clockSet, poweredUp, nothing}
 use Rattle.monitor.specs.History.{passed, asked, refusalOf, ifAccepted, Past, pastOf, found, latest, since}
@@ -44,13 +45,13 @@ module _ (past : Past) (s : List ℕ) where
   threshold-after true e = rw e
   threshold-after false e = rw e
 
-  counted-after :
+  completed-after :
       (b : Bool) →
       decoded s .enabled ≡ b →
       sinceEnabled (configured s ∷ past) ≡ cond b [] (sinceEnabled past)
   unfolding since
-  counted-after true e = rw e
-  counted-after false e = rw e
+  completed-after true e = rw e
+  completed-after false e = rw e
 
   debug-after : debugAt (configured s ∷ past) ≡ cond (eqb (discard s) 1) noDebugLog (debugAt past)
   unfolding debugAt since earliest filter
@@ -64,7 +65,7 @@ module _ (past : Past) (s : List ℕ) where
       by false = refl
 
   -- the record of the facts, of these four
-  abbrev of-these : ℕ → ℕ → List Counted → Monitor
+  abbrev of-these : ℕ → ℕ → List Completed → Monitor
   of-these t p xs =
       described (decoded s) (t / 300000 - t / (300000 * p) * p) (hostSetAt past) (t % 300000) (clockAt past)
       (cond (eqb (discard s) 1) noDebugLog (debugAt past))
@@ -75,7 +76,7 @@ module _ (past : Past) (s : List ℕ) where
       recordOf (configured s ∷ past) ≡
       of-these (enabledTime (configured s ∷ past)) (timerThreshold (configured s ∷ past))
       (sinceEnabled (configured s ∷ past))
-  unfolding recordOf inForce clockAt hostSetAt timerAt windowAt active static latest since
+  unfolding recordOf inForce clockAt hostSetAt timerAt windowAt active static belowACounts ofKindBelowA latest since
   facts-after = rw debug-after
 
   emptied-or-kept :
@@ -83,7 +84,7 @@ module _ (past : Past) (s : List ℕ) where
       reset (recordOf past) (decoded s) (cond (eqb (discard s) 1) noDebugLog (debugAt past)) b ≡
       of-these (cond b 0 (enabledTime past)) (cond b (decoded s .«timer_threshold») (timerThreshold past))
       (cond b [] (sinceEnabled past))
-  unfolding recordOf timerAt windowAt active static emptyWindow filter lastLoad countOf from
+  unfolding recordOf timerAt windowAt active static belowACounts ofKindBelowA emptyWindow filter filterMap lastLoad countOf from
   emptied-or-kept true = rw (zero-div (300000 * decoded s .«timer_threshold»), zero-mul (decoded s .«timer_threshold»))
   emptied-or-kept false = refl
 
@@ -94,14 +95,14 @@ module _ (past : Past) (s : List ℕ) where
       (decoded s .enabled) e refl refl refl .0) ∙
       emptied-or-kept (decoded s .enabled) ∙
       (λ i. of-these (sym (time-after (decoded s .enabled) refl) i)
-      (sym (threshold-after (decoded s .enabled) refl) i) (sym (counted-after (decoded s .enabled) refl) i)) ∙
+      (sym (threshold-after (decoded s .enabled) refl) i) (sym (completed-after (decoded s .enabled) refl) i)) ∙
       sym facts-after
 
 clock-step :
     (past : Past) (value : ℕ) →
     value ≤ 281474976710655 →
     afterClock (recordOf past) value ≡ recordOf (clockSet value ∷ past)
-unfolding afterClock clockRefusal recordOf inForce clockAt hostSetAt timerAt windowAt enabledTime timerThreshold active static debugAt latest since sum
+unfolding afterClock clockRefusal recordOf inForce clockAt hostSetAt timerAt windowAt enabledTime timerThreshold active static belowACounts ofKindBelowA debugAt latest since sum
 clock-step past value h =
     let e : value ≡ min (value + 0) 281474976710655 = omega arith in
     rw (le-ltb 281474976710655 value h)
@@ -109,15 +110,15 @@ clock-step past value h =
     (windowAt past) (sinceEnabled past)) e)
 
 power-up-step : (past : Past) → afterPowerUp (recordOf past) ≡ recordOf (poweredUp ∷ past)
-unfolding afterPowerUp recordOf inForce clockAt hostSetAt timerAt windowAt enabledTime timerThreshold active static debugAt latest since sum
+unfolding afterPowerUp recordOf inForce clockAt hostSetAt timerAt windowAt enabledTime timerThreshold active static belowACounts ofKindBelowA debugAt latest since sum
 power-up-step past = refl
 
 nothing-step : (past : Past) → recordOf past ≡ recordOf (nothing ∷ past)
-unfolding recordOf inForce clockAt hostSetAt timerAt windowAt enabledTime timerThreshold active static debugAt latest since sum
+unfolding recordOf inForce clockAt hostSetAt timerAt windowAt enabledTime timerThreshold active static belowACounts ofKindBelowA debugAt latest since sum
 nothing-step past = refl
 
 new-step : newMonitor ≡ recordOf []
-unfolding newMonitor recordOf inForce clockAt hostSetAt timerAt windowAt enabledTime timerThreshold active static debugAt latest since sum emptyWindow filter lastLoad countOf from earliest
+unfolding newMonitor recordOf inForce clockAt hostSetAt timerAt windowAt enabledTime timerThreshold active static belowACounts ofKindBelowA debugAt latest since sum emptyWindow filter filterMap lastLoad countOf from earliest
 new-step = refl
 
 -- a refused call
@@ -169,6 +170,7 @@ step past g (clock value) = by (clockRefusal value) refl
 step past g powerUp = (tt, power-up-step past)
 step past g (page k) = reads past (pageRefusal k)
 step past g (settingsBack k) = reads past (settingsBackRefusal k)
+step past g (calls.belowA w) = reads past none
 
 pub good : (h : History) → Good (pastOf h)
 unfolding Step

@@ -5,7 +5,7 @@ use mathlib.Core.List.{List}
 use mathlib.Core.Option.{some, none}
 use Prim.Native.Nat.{ℕ, _-_, _≤_}
 use lib.Dec.{eqb}
-use lib.ListN.{getD, set}
+use lib.ListN.{set}
 use borrow.Author.Tests.{le-ltb}
 use Rattle.logpage.specs.Fields.{windowOf, emptyWindow, noDebugLog}
 use Rattle.logpage.specs.declared.DebugLog.{DebugLog}
@@ -16,11 +16,11 @@ use Rattle.monitor.specs.declared.timer.Tick.{Tick}
 use Rattle.monitor.specs.Answers.{done, refused, notCounted, counted, ended, unlessRefused}
 use Rattle.monitor.specs.Refusals.{settingsRefusal, elapsedRefusal}
 use Rattle.monitor.specs.Settings.{discard, decoded}
-use Rattle.monitor.specs.Counting.{bit, onceMore, loads, countedIn, triggers, debugLog}
-use Rattle.monitor.specs.Commands.{counterOf, millisecondsOf}
+use Rattle.monitor.specs.Counting.{bit, onceMoreAt, loads, countedIn, countedBelowA, triggers, debugLog}
+use Rattle.monitor.specs.Commands.{counterOf, belowAOf, millisecondsOf}
 use Rattle.monitor.specs.Timer.{grown, ticked, inWindow}
 use Rattle.monitor.proofs.settings.Laws.{refused-by}
-use Rattle.monitor.specs.Record.{noLoads, afterSettings, settingsAnswer, afterCompletion, completionAnswer}
+use Rattle.monitor.specs.Record.{noLoads, noneBelowA, afterSettings, settingsAnswer, afterCompletion, completionAnswer}
 use Rattle.monitor.specs.Record.{afterElapsed, elapsedAnswer, loadsAt}
 
 -- settings that are turned away
@@ -42,6 +42,8 @@ configured m next debug on =
       clock = m .clock;
       loaded = cond on noLoads (m .loaded);
       debug = debug;
+      «active_below_a» = cond on noneBelowA (m .«active_below_a»);
+      «static_below_a» = cond on noneBelowA (m .«static_below_a»);
       «static_window» = cond on emptyWindow (m .«static_window»);
       «active_window» = cond on emptyWindow (m .«active_window»);
     }
@@ -57,13 +59,30 @@ unfolding afterSettings settingsAnswer
 settings-accepted m s next debug on accepted read keeps enables =
     (rw (accepted, ← read, ← enables, keeps), rw accepted)
 
--- a completion that is not counted
+-- a completion that is not counted, by the counts below threshold A that it leaves
+abbrev pub withBelowA : Monitor → List ℕ → Monitor
+withBelowA m counts =
+    record {
+      settings = m .settings;
+      timer = m .timer;
+      «host_set» = m .«host_set»;
+      partial = m .partial;
+      clock = m .clock;
+      loaded = m .loaded;
+      debug = m .debug;
+      «active_below_a» = counts;
+      «static_below_a» = m .«static_below_a»;
+      «static_window» = m .«static_window»;
+      «active_window» = m .«active_window»;
+    }
+
 pub not-counted :
-    (m : Monitor) (c : Command) →
+    (m : Monitor) (c : Command) (counts : List ℕ) →
     counterOf (m .settings) c ≡ none →
-    (m ≡ afterCompletion m c) × (notCounted ≡ completionAnswer m c)
+    counts ≡ countedBelowA (belowAOf (m .settings) c) (m .«active_below_a») →
+    (withBelowA m counts ≡ afterCompletion m c) × (notCounted ≡ completionAnswer m c)
 unfolding afterCompletion completionAnswer
-not-counted m c e = (rw e, rw e)
+not-counted m c counts e more = (rw (e, more), rw e)
 
 -- what a counted completion writes, by whether it loads the stamp
 abbrev pub recorded : Monitor → (n ms : ℕ) (log : DebugLog) (counters : List ℕ) (load : Bool) → Monitor
@@ -76,6 +95,8 @@ recorded m n ms log counters load =
       clock = m .clock;
       loaded = cond load (set (m .loaded) n (inWindow (m .timer) (m .partial))) (m .loaded);
       debug = log;
+      «active_below_a» = m .«active_below_a»;
+      «static_below_a» = m .«static_below_a»;
       «static_window» = m .«static_window»;
       «active_window» =
           windowOf counters
@@ -95,7 +116,7 @@ pub decide :
     ms ≡ millisecondsOf c →
     debug ≡ triggers (bit (m .settings .trigger) n) (m .debug .stamp) →
     log ≡ cond debug (debugLog n (m .clock) ms (m .«host_set»)) (m .debug) →
-    counters ≡ set (m .«active_window» .counters) n (onceMore (getD (m .«active_window» .counters) n 0)) →
+    counters ≡ onceMoreAt (m .«active_window» .counters) n →
     load ≡ loadsAt m n ms →
     Decided m c n ms log counters debug load
 unfolding afterCompletion completionAnswer countedIn
@@ -116,6 +137,8 @@ moved m clock t expired =
       clock = clock;
       loaded = cond expired noLoads (m .loaded);
       debug = m .debug;
+      «active_below_a» = cond expired noneBelowA (m .«active_below_a»);
+      «static_below_a» = cond expired (m .«active_below_a») (m .«static_below_a»);
       «static_window» = cond expired (m .«active_window») (m .«static_window»);
       «active_window» = cond expired emptyWindow (m .«active_window»);
     }

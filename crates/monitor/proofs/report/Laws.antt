@@ -10,14 +10,17 @@ use borrow.Author.Tests.{eq-eqb, ne-eqb}
 use Rattle.endian.proofs.Runs.{sets-whole}
 use Rattle.logpage.specs.Page.{pageBytes}
 use Rattle.monitor.specs.declared.record.Monitor.{Monitor}
+use Rattle.monitor.specs.declared.report.WindowChoice.{WindowChoice}
 use Rattle.monitor.specs.Answers.{CallAnswer, done, refused}
 use Rattle.monitor.specs.Claims.{pageByFacts, settingsByFacts}
-use Rattle.monitor.specs.History.{History, OfBytes, play}
+use Rattle.monitor.specs.Facts.{belowACounts}
+use Rattle.monitor.specs.History.{History, OfBytes, pastOf, play}
 use Rattle.monitor.specs.Record.{untouchedIf}
 use Rattle.monitor.specs.Refusals.{pageRefusal, settingsBackRefusal}
 use Rattle.monitor.specs.Report.{fieldsOf, pageOf, afterPage, pageAnswer, settingsOf, afterSettingsBack}
-use Rattle.monitor.specs.Report.{settingsBackAnswer}
+use Rattle.monitor.specs.Report.{settingsBackAnswer, countsBelowA}
 use Rattle.monitor.specs.Settings.{encoded}
+use Rattle.monitor.proofs.histories.BelowA.{below-a-shows-facts}
 use Rattle.monitor.proofs.histories.Given.{page-shows-facts, settings-come-back}
 use Rattle.monitor.proofs.settings.Laws.{length-encoded}
 
@@ -82,3 +85,10 @@ module _ (m : Monitor) (buffer after : List ℕ) where
   settings-refused other kept =
       let e : after ≡ afterSettingsBack m buffer = kept ∙ rw (ne-eqb (length buffer) 4096 other) in
       (e, (rw (ne-eqb (length buffer) 4096 other), settings-by-facts e))
+
+-- what `below_a` promises
+pub below-a-told :
+    (m : Monitor) (w : WindowChoice) (counts : List ℕ) →
+    counts ≡ countsBelowA w m →
+    (counts ≡ countsBelowA w m) × ((h : History) → m ≡ play h → counts ≡ belowACounts w (pastOf h))
+below-a-told m w counts e = (e, λ h leads. e ∙ ap (countsBelowA w) leads ∙ below-a-shows-facts h w)

@@ -1,7 +1,7 @@
 -- `Monitor::completion`: counted with the stamp loaded; counted with it kept; not counted.
 use mathlib.Core.Path.{_≡_, sym, _∙_}
 use mathlib.Core.Bool.{Bool, true, false}
-use Rattle.monitor.proofs.Counters.{is-counter, no-counter}
+use Rattle.monitor.proofs.Counters.{is-counter, no-counter, counted-kind}
 use Rattle.monitor.proofs.record.Laws.{not-counted, Decided, decide}
 use borrow.Author.Needs.{needs}
 use Rattle.monitor.proofs.record.Monitor.completion.Statement.{statement}
@@ -58,6 +58,12 @@ of-requires c κs = search needs
 of-requires-2 : tie.Need-of-requires-2
 of-requires-2 c κs = search needs
 
+below-a-requires : tie.Need-below-a-requires
+below-a-requires c κs = search needs
+
+counted-below-a-requires : tie.Need-counted-below-a-requires
+counted-below-a-requires c κs = search needs
+
 -- the places on the way to the decision, the latest first
 abbrev at-counted : tie.After-loads → tie.After-counted-at
 at-counted c = c .before
@@ -102,7 +108,10 @@ returns-2 c =
     (rw (c .of2 .ensures) (d .next), d .answer)
 
 returns-3 : tie.Need-returns-3
-returns-3 c = not-counted _ _ (no-counter _ _ _ (c .before .counter .ensures) (c .if1 .left))
+returns-3 c =
+    let else = c .before .before .before in
+    not-counted _ _ _ (no-counter _ _ _ (else .before .counter .ensures) (else .if1 .left))
+    (c .counted-below-a .ensures ∙ counted-kind _ _ _ _ (c .before .below-a .ensures))
 
 pub completion-spec : {M : Type 1} → statement M
 completion-spec =
@@ -125,6 +134,8 @@ completion-spec =
     array-write-loaded
     of-requires
     of-requires-2
+    below-a-requires
+    counted-below-a-requires
     returns
     returns-2
     returns-3)

@@ -42,11 +42,11 @@ returns c =
 
 returns-2 : tie.Need-returns-2
 returns-2 c =
-    rw (c .before .empty .ensures)
-    (settings-accepted _ _ _ _ _ (accepted (c .before .before .before .before .before .before))
-    (c .before .before .before .before .before .decode .ensures)
-    (c .before .before .before .after-discard .ensures)
-    (c .before .before .if1 .taken))
+    let then = c .before .before .before .before in
+    rw (c .before .before .before .empty .ensures)
+    (settings-accepted _ _ _ _ _ (accepted (then .before .before .before .before)) (then .before .before .before .decode .ensures)
+    (then .before .after-discard .ensures)
+    (then .if1 .taken))
 
 returns-3 : tie.Need-returns-3
 returns-3 c =

@@ -18,9 +18,10 @@ empty-requires c κs = search needs
 
 returns : tie.Need-returns
 returns c =
-    let t = c .before .before .before .before .before in
-    rw (c .before .empty .ensures)
-    (elapsed-accepted _ _ _ _ _ (t .before .if1 .taken) (t .ticked .ensures) (c .before .before .before .before .grown .ensures) (c .before .before .before .if2 .taken))
+    let then = c .before .before .before .before .before in
+    let t = then .before .before in
+    rw (c .before .before .empty .ensures)
+    (elapsed-accepted _ _ _ _ _ (t .before .if1 .taken) (t .ticked .ensures) (then .before .grown .ensures) (then .if2 .taken))
 
 returns-2 : tie.Need-returns-2
 returns-2 c =

@@ -1,0 +1,21 @@
+-- `latency_monitor_static_below_a`, by the walk of a function that hands on what its rule answers.
+use base.Logic.{emp}
+use contract.Monad.{factI}
+use Rattle.latency_monitor.specs.Answers.{standInStatic}
+use Rattle.latency_monitor.proofs.AnswerTypes.{the-record, plain-below-a}
+use Rattle.latency_monitor.proofs.Parameters.{none}
+use Rattle.latency_monitor.proofs.Shown.{shows}
+use Rattle.latency_monitor.proofs.answers.static_below_a.Symbol.{name as #rule}
+use Rattle.latency_monitor.proofs.answers.static_below_a.Met as rule
+use Rattle.latency_monitor.proofs.latency_monitor_static_below_a as f
+use Rattle.latency_monitor.proofs.latency_monitor_static_below_a.Key.{name as #self}
+use Rattle.latency_monitor.proofs.latency_monitor_static_below_a.Statement.{statement}
+use Rattle.latency_monitor.proofs.latency_monitor_static_below_a.Code as code
+
+pub latency-monitor-static-below-a-spec : {M : Type 1} → statement M
+unfolding code.routine
+latency-monitor-static-below-a-spec 𝓤 H 𝓜 𝓖 𝓡 =
+    shows the-record plain-below-a #rule {n = 0} none (λ _ m _. standInStatic m)
+    𝓤 H 𝓜 𝓖 𝓡 code.env #self (code.unfolded 𝓤 H 𝓜 𝓡)
+    code.calls-latency-monitor·answers·static-below-a (rule.met 𝓤 H 𝓜 𝓖 𝓡)
+    (f.clauses 𝓤 H (𝓖 .A) (𝓜 .mem) (𝓡 .run)) (λ κs a g r e same. factI 𝓤 _ (emp 𝓤) same)

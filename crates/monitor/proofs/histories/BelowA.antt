@@ -1,0 +1,236 @@
+-- The counts below threshold A after a history: the call returns those of the facts, and a kind's five counts add up.
+use Prim.Native.Nat.{ℕ, zero, suc, _+_, _*_, _≤_, _<_}
+use mathlib.Core.Path.{_≡_, refl, sym, ap, subst, _∙_}
+use mathlib.Core.Bool.{Bool, true, false, cond, not, _&&_}
+use mathlib.Core.List.{List, [], _∷_}
+use mathlib.Core.Option.{Option, none, some}
+use native.Mathlib.Nat.{zero-add}
+use native.Mathlib.Omega.{arith}
+use lib.Dec.{eqb}
+use lib.ListN.{length, getD}
+use borrow.Author.Tests.{eq-eqb, ne-eqb, eqb-true, eqb-false}
+use Rattle.logpage.specs.Fields.{from}
+use Rattle.monitor.specs.declared.report.WindowChoice.{WindowChoice}
+use Rattle.monitor.specs.declared.report.WindowChoice.the-variants.{Active, Static}
+use Rattle.monitor.specs.Commands.{kindOf, reachesA, counterOf}
+use Rattle.monitor.specs.Claims.{recordOf, windowIn, BelowAShowsFacts, fiveCounts, FiveCountsAddUp}
+use Rattle.monitor.specs.Facts.{inForce, enablingIn, sum, Completed, completedAt, sinceEnabled, Counted, counted}
+use Rattle.monitor.specs.Facts.{countedSince, filter, filterMap, isIn, activeFor, staticFor, active, static, countOf}
+use Rattle.monitor.specs.Facts.{kindIn, isBelowA, ofKind, ofKindBelowA, belowACounts}
+use Rattle.monitor.specs.History.{Effect, completionIn, History, Past, Every, pastOf, play, found, onlyIf, andThen}
+use Rattle.monitor.specs.Report.{countsBelowA}
+use Rattle.monitor.specs.declared.commands.Command.{Command}
+use Rattle.monitor.proofs.commands.Laws.{Sorted, slow, fast, kindless, disabled, sorted}
+use Rattle.monitor.proofs.histories.Bounds.{since-all}
+use Rattle.monitor.proofs.histories.Lists.{All, Some, from-at, from-same}
+use Rattle.monitor.proofs.histories.Play.{played-as-facts}
+
+pub below-a-shows-facts : BelowAShowsFacts
+unfolding recordOf
+below-a-shows-facts h w = ap (countsBelowA w) (played-as-facts h) ∙ by w
+  where
+    by : (v : WindowChoice) → countsBelowA v (recordOf (pastOf h)) ≡ belowACounts v (pastOf h)
+    by Active = refl
+    by Static = refl
+
+-- an enabled completion of a kind is counted in one bucket, or below threshold A
+data Place (x : Completed) : Type 0 where
+  in-bucket :
+      (b : ℕ) →
+      b < 4 →
+      isBelowA x ≡ false →
+      counted x ≡ some (record { counter = 3 * b + x .kind; command = x .command; before = x .before }) →
+      Place x
+  below-a : isBelowA x ≡ true → counted x ≡ none → Place x
+
+abbrev Placed : Completed → Type 0
+Placed x = (x .kind < 3) × Place x
+
+-- a command at a place, if the monitor is enabled there
+abbrev here : Past → Bool → Command → ℕ → Option Completed
+here past on c k = onlyIf on (record { kind = k; command = c; before = past })
+
+placed : (e : Effect) (past : Past) → Some Placed (completedAt e past)
+placed e past = by (completionIn e)
+  where
+    none-here : (c : Command) (o : Option ℕ) → Some Placed (found none (here past false c) o)
+    none-here c none = tt
+    none-here c (some k) = tt
+
+    as-sorted :
+        (c : Command) →
+        Sorted (inForce past) c →
+        Some Placed (found none (here past (inForce past .enabled) c) (kindOf c))
+    as-sorted c (slow k b few low on kind reached e) = rw (kind, on) (few, in-bucket b low (rw reached) (rw e))
+    as-sorted c (fast k few on kind below e e') = rw (kind, on) (few, below-a (rw below) (rw e))
+    as-sorted c (kindless kind e e') = rw kind tt
+    as-sorted c (disabled off e e') = rw off (none-here c (kindOf c))
+
+    by : (o : Option Command) → Some Placed (found none (λ c. found none (here past (inForce past .enabled) c) (kindOf c)) o)
+    by none = tt
+    by (some c) = as-sorted c (sorted (inForce past) c)
+
+-- how many pass a test
+abbrev number : {A : Type 0} → (A → Bool) → List A → ℕ
+number test xs = length (filter test xs)
+
+abbrev one : Bool → ℕ
+one b = cond b 1 0
+
+one-more : {A : Type 0} (test : A → Bool) (x : A) (xs : List A) → number test (x ∷ xs) ≡ one (test x) + number test xs
+unfolding filter
+one-more {A} test x xs = by (test x)
+  where
+    by : (b : Bool) → length (cond b (x ∷ filter test xs) (filter test xs)) ≡ one b + number test xs
+    by true = omega arith
+    by false = omega arith
+
+and-true : (a : Bool) → (a && true) ≡ a
+and-true true = refl
+and-true false = refl
+
+and-false : (a : Bool) → (a && false) ≡ false
+and-false true = refl
+and-false false = refl
+
+-- two counters are the same if their buckets and kinds are
+same-counter :
+    (b kind j k : ℕ) →
+    kind < 3 →
+    k < 3 →
+    eqb (3 * b + kind) (3 * j + k) ≡ (eqb b j && eqb kind k)
+same-counter b kind j k few low = by (eqb b j) refl (eqb kind k) refl
+  where
+    by :
+        (p : Bool) →
+        eqb b j ≡ p →
+        (q : Bool) →
+        eqb kind k ≡ q →
+        eqb (3 * b + kind) (3 * j + k) ≡ (p && q)
+    by true e true f = eq-eqb (3 * b + kind) (3 * j + k) (omega (arith, eqb-true b j e, eqb-true kind k f))
+    by true e false f = ne-eqb _ _ (λ (same : 3 * b + kind ≡ 3 * j + k). eqb-false kind k f (omega (arith, eqb-true b j e)))
+    by false e q f = ne-eqb _ _ (λ (same : 3 * b + kind ≡ 3 * j + k). eqb-false b j e (omega arith))
+
+-- a counter's bucket is one of four
+one-bucket :
+    (t kind : Bool) (b : ℕ) →
+    b < 4 →
+    one (t && (eqb b 0 && kind)) + one (t && (eqb b 1 && kind)) + one (t && (eqb b 2 && kind)) +
+    one (t && (eqb b 3 && kind)) ≡
+    one (t && kind)
+one-bucket false kind b low = refl
+one-bucket true kind zero low = omega arith
+one-bucket true kind (suc zero) low = omega arith
+one-bucket true kind (suc (suc zero)) low = omega arith
+one-bucket true kind (suc (suc (suc zero))) low = omega arith
+one-bucket true kind (suc (suc (suc (suc b)))) low = absurd (omega arith)
+
+-- of the completions at the places that pass a test, those of a kind
+module _ (t : Past → Bool) (k : ℕ) (few : k < 3) where
+  abbrev of-kind : Completed → Bool
+  of-kind x = t (x .before) && eqb (x .kind) k
+
+  abbrev fast-of-kind : Completed → Bool
+  fast-of-kind x = of-kind x && isBelowA x
+
+  abbrev of-bucket : ℕ → Counted → Bool
+  of-bucket b y = t (y .before) && eqb (y .counter) (3 * b + k)
+
+  abbrev in-buckets : List Counted → ℕ
+  in-buckets ys = number (of-bucket 0) ys + number (of-bucket 1) ys + number (of-bucket 2) ys + number (of-bucket 3) ys
+
+  -- completions, and the counted ones among them
+  abbrev AddUp : List Completed → List Counted → Type 0
+  AddUp xs ys = number fast-of-kind xs + in-buckets ys ≡ number of-kind xs
+
+  -- one completion more
+  module _ (x : Completed) (xs : List Completed) (ys : List Counted) (rest : AddUp xs ys) where
+    add-fast : isBelowA x ≡ true → AddUp (x ∷ xs) ys
+    add-fast below =
+        let same : one (fast-of-kind x) ≡ one (of-kind x) = rw (below, and-true (of-kind x)) in
+        omega (arith, one-more fast-of-kind x xs, one-more of-kind x xs)
+
+    add-slow :
+        x .kind < 3 →
+        (b : ℕ) →
+        b < 4 →
+        isBelowA x ≡ false →
+        AddUp (x ∷ xs) (record { counter = 3 * b + x .kind; command = x .command; before = x .before } ∷ ys)
+    add-slow low b there reached =
+        let y : Counted = record { counter = 3 * b + x .kind; command = x .command; before = x .before } in
+        let none-below : one (fast-of-kind x) ≡ 0 = rw (reached, and-false (of-kind x)) in
+        let at : (j : ℕ) → one (of-bucket j y) ≡ one (t (x .before) && (eqb b j && eqb (x .kind) k)) =
+        λ j. ap (λ q. one (t (x .before) && q)) (same-counter b (x .kind) j k low few) in
+        omega (
+          arith,
+          one-more fast-of-kind x xs,
+          one-more of-kind x xs,
+          one-more (of-bucket 0) y ys,
+          one-more (of-bucket 1) y ys,
+          one-more (of-bucket 2) y ys,
+          one-more (of-bucket 3) y ys,
+          at 0,
+          at 1,
+          at 2,
+          at 3,
+          one-bucket (t (x .before)) (eqb (x .kind) k) b there,
+        )
+
+  add-up : (xs : List Completed) → All Placed xs → AddUp xs (filterMap counted xs)
+  unfolding filterMap filter
+  add-up [] h = refl
+  add-up (x ∷ xs) h = by (h .0 .1) (add-up xs (h .1))
+    where
+      by : Place x → AddUp xs (filterMap counted xs) → AddUp (x ∷ xs) (andThen (counted x) (filterMap counted xs))
+      by (below-a below e) rest = rw e (add-fast x xs (filterMap counted xs) rest below)
+      by (in-bucket b there reached e) rest = rw e (add-slow x xs (filterMap counted xs) rest (h .0 .0) b there reached)
+
+entry : (size : ℕ) (f : ℕ → ℕ) (k : ℕ) → k < size → getD (from 0 size f) k 0 ≡ f k
+entry size f k h = rw (zero-add k) at (from-at 0 size f k 0 h)
+
+-- the five counts of the record that the facts describe
+abbrev slow-in : WindowChoice → Past → ℕ → List Counted
+slow-in w past n = filter (λ y. isIn w past (y .before) && eqb (y .counter) n) (countedSince past)
+
+abbrev five : WindowChoice → Past → ℕ → List ℕ
+five w past k = countOf (ofKindBelowA w past k) ∷ from 0 4 (λ b. countOf (slow-in w past (3 * b + k)))
+
+described-five : (past : Past) (w : WindowChoice) (k : ℕ) → k < 3 → fiveCounts w (recordOf past) k ≡ five w past k
+unfolding recordOf belowACounts active static
+described-five past w k few = λ i. by w i ∷ from-same 0 4 _ _ (slow-at w) i
+  where
+    by : (v : WindowChoice) → getD (countsBelowA v (recordOf past)) k 0 ≡ countOf (ofKindBelowA v past k)
+    by Active = entry 3 (λ j. countOf (ofKindBelowA Active past j)) k few
+    by Static = entry 3 (λ j. countOf (ofKindBelowA Static past j)) k few
+
+    slow-at :
+        (v : WindowChoice) (b : ℕ) →
+        0 ≤ b →
+        b < 4 →
+        getD (windowIn v (recordOf past) .counters) (3 * b + k) 0 ≡ countOf (slow-in v past (3 * b + k))
+    slow-at Active b l low = entry 12 (λ n. countOf (slow-in Active past n)) (3 * b + k) (omega arith)
+    slow-at Static b l low = entry 12 (λ n. countOf (slow-in Static past n)) (3 * b + k) (omega arith)
+
+module _ (past : Past) (w : WindowChoice) (k : ℕ) (few : k < 3) where
+  -- a list of counts whose entries are below their top adds up
+  abbrev Sums : List ℕ → Type 0
+  Sums counts = All (λ count. count < 4294967295) counts → sum counts ≡ length (ofKind w past k)
+
+  five-add-up : Sums (five w past k)
+  unfolding sum countOf from ofKind ofKindBelowA
+  five-add-up top =
+      omega (
+        arith,
+        add-up (isIn w past) k few (sinceEnabled past) (since-all Placed enablingIn completedAt placed past),
+        top .0,
+        top .1 .0,
+        top .1 .1 .0,
+        top .1 .1 .1 .0,
+        top .1 .1 .1 .1 .0,
+      )
+
+pub five-counts-add-up : FiveCountsAddUp
+five-counts-add-up h w k few =
+    let as-facts : fiveCounts w (play h) k ≡ five w (pastOf h) k =
+    ap (λ m. fiveCounts w m k) (played-as-facts h) ∙ described-five (pastOf h) w k few in
+    subst (Sums (pastOf h) w k few) (sym as-facts) (five-add-up (pastOf h) w k few)
