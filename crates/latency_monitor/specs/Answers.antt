@@ -1,11 +1,12 @@
 -- The calls' answers as the numbers and flags that C gets.
 use mathlib.Core.Bool.{Bool, true, false}
+use mathlib.Core.List.{List}
 use Prim.Native.Nat.{ℕ}
-use Rattle.monitor.specs.Answers.{CallAnswer, refused, done, notCounted, counted, ended}
+use lib.ListN.{getD}
+use Rattle.monitor.specs.Answers.{CallAnswer, refused, done, notCounted, counted, ended, belowA}
 use Rattle.latency_monitor.specs.declared.answers.PlainCompletionAnswer.{PlainCompletionAnswer}
 use Rattle.latency_monitor.specs.declared.answers.PlainElapsedAnswer.{PlainElapsedAnswer}
 use Rattle.latency_monitor.specs.declared.answers.PlainBelowA.{PlainBelowA}
-use Rattle.monitor.specs.declared.record.Monitor.{Monitor}
 
 -- 01, Where a call is turned away: the refusal number, or 0 if the call was accepted
 abbrev pub asRefusal : CallAnswer → ℕ
@@ -14,6 +15,7 @@ asRefusal done = 0
 asRefusal notCounted = 0
 asRefusal (counted n loaded debug) = 0
 asRefusal (ended b) = 0
+asRefusal (belowA counts) = 0
 
 -- 01, Time and power: whether the active window ended
 abbrev pub asEnded : CallAnswer → Bool
@@ -22,6 +24,7 @@ asEnded done = false
 asEnded notCounted = false
 asEnded (counted n loaded debug) = false
 asEnded (ended b) = b
+asEnded (belowA counts) = false
 
 -- the answer to elapsed time
 abbrev pub asElapsed : CallAnswer → PlainElapsedAnswer
@@ -39,10 +42,8 @@ asCompletion notCounted = noCounter
 asCompletion (counted n loaded debug) =
     record { counter = n; counted = true; loaded = loaded; debug = debug }
 asCompletion (ended b) = noCounter
+asCompletion (belowA counts) = noCounter
 
--- stand-ins for what the monitor's rule counts below threshold A
-abbrev pub standInActive : Monitor → PlainBelowA
-standInActive m = record { read = m .partial; write = m .settings .«timer_threshold»; deallocate = 0 }
-
-abbrev pub standInStatic : Monitor → PlainBelowA
-standInStatic m = record { read = 0; write = m .partial; deallocate = m .timer }
+-- 02, Ticket 2: the counts below threshold A, by the kind's number (01, The monitor's record)
+abbrev pub asBelowA : List ℕ → PlainBelowA
+asBelowA counts = record { read = getD counts 0 0; write = getD counts 1 0; deallocate = getD counts 2 0 }

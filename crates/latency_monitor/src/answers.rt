@@ -1,12 +1,14 @@
-// What the calls answer, as C reads it: enums do not cross the boundary.
+// What the calls answer, as C reads it: neither enums nor arrays cross the boundary.
 ghost use mathlib.Core.Path.{_≡_};
 ghost use Rattle.monitor.specs.Answers.{saysAnswer, saysCompletion, saysElapsed};
-ghost use Rattle.latency_monitor.specs.Answers.{asRefusal, asCompletion, asElapsed};
-ghost use Rattle.latency_monitor.specs.Answers.{standInActive, standInStatic};
+ghost use Rattle.monitor.specs.Report.{countsBelowA};
+ghost use Rattle.monitor.specs.declared.report.WindowChoice.the-variants.{Active, Static};
+ghost use Rattle.latency_monitor.specs.Answers.{asRefusal, asCompletion, asElapsed, asBelowA};
 use monitor::Answer;
 use monitor::CompletionAnswer;
 use monitor::ElapsedAnswer;
 use monitor::Monitor;
+use monitor::WindowChoice;
 
 // The refusal number of an accepted call.
 const ACCEPTED: u8 = 0;
@@ -32,7 +34,7 @@ pub struct PlainElapsedAnswer {
     pub ended: bool,
 }
 
-// How many commands of each kind were below threshold A.
+// The enabled completions of each kind below threshold A in a window.
 #[repr(C)]
 pub struct PlainBelowA {
     pub read: u32,
@@ -94,23 +96,25 @@ pub(crate) fn elapsed(a: ElapsedAnswer) -> PlainElapsedAnswer
     }
 }
 
-// Stand-ins for the monitor's rule, in the active and in the static window.
-pub(crate) fn active_below_a(m: Monitor) -> PlainBelowA
-    ensures { λ r. ⌜ r ≡ standInActive m ⌝ }
+fn below_a(m: Monitor, window: WindowChoice) -> PlainBelowA
+    ensures { λ r. ⌜ r ≡ asBelowA (countsBelowA window m) ⌝ }
 {
+    let counts = m.below_a(window);
     PlainBelowA {
-        read: m.partial,
-        write: m.settings.timer_threshold as u32,
-        deallocate: 0,
+        read: counts[0],
+        write: counts[1],
+        deallocate: counts[2],
     }
 }
 
-pub(crate) fn static_below_a(m: Monitor) -> PlainBelowA
-    ensures { λ r. ⌜ r ≡ standInStatic m ⌝ }
+pub(crate) fn active_below_a(m: Monitor) -> PlainBelowA
+    ensures { λ r. ⌜ r ≡ asBelowA (countsBelowA Active m) ⌝ }
 {
-    PlainBelowA {
-        read: 0,
-        write: m.partial,
-        deallocate: m.timer as u32,
-    }
+    below_a(m, WindowChoice::Active)
+}
+
+pub(crate) fn static_below_a(m: Monitor) -> PlainBelowA
+    ensures { λ r. ⌜ r ≡ asBelowA (countsBelowA Static m) ⌝ }
+{
+    below_a(m, WindowChoice::Static)
 }

@@ -1,7 +1,7 @@
 // The firmware's boundary: the record is lent for each call, in C's calling convention. Each function calls the
 // monitor's rule on the record, stores the record that comes back, and gives the answer as numbers;
-// include/latency_monitor.h declares them. `page` and `settings_back` only read the record; `read_page` has no part in
-// it, and fills the fields of a page that are lent.
+// include/latency_monitor.h declares them. `page`, `settings_back` and the counts below threshold A only read the record;
+// `read_page` has no part in it, and fills the fields of a page that are lent.
 mod answers;
 mod reading;
 
@@ -15,8 +15,9 @@ ghost use Rattle.monitor.specs.Answers.{done};
 ghost use Rattle.monitor.specs.Record.{newMonitor, afterSettings, settingsAnswer, afterCompletion, completionAnswer};
 ghost use Rattle.monitor.specs.Record.{afterElapsed, elapsedAnswer, afterClock, clockAnswer, afterPowerUp};
 ghost use Rattle.monitor.specs.Report.{afterPage, pageAnswer, afterSettingsBack, settingsBackAnswer};
-ghost use Rattle.latency_monitor.specs.Answers.{asRefusal, asCompletion, asElapsed};
-ghost use Rattle.latency_monitor.specs.Answers.{standInActive, standInStatic};
+ghost use Rattle.monitor.specs.Report.{countsBelowA};
+ghost use Rattle.monitor.specs.declared.report.WindowChoice.the-variants.{Active, Static};
+ghost use Rattle.latency_monitor.specs.Answers.{asRefusal, asCompletion, asElapsed, asBelowA};
 ghost use Rattle.latency_monitor.specs.Reading.{readAnswer};
 use logpage::Reading;
 use monitor::Command;
@@ -128,6 +129,22 @@ pub extern "C" fn latency_monitor_settings_back(m: &Monitor, s: &mut [u8]) -> u8
     answers::refusal(Monitor::settings_back(*m, s))
 }
 
+// The enabled completions below threshold A in the active window.
+#[no_mangle]
+pub extern "C" fn latency_monitor_active_below_a(m: &Monitor) -> PlainBelowA
+    ensures { λ r. ⌜ r ≡ asBelowA (countsBelowA Active (now (m .entry))) ⌝ }
+{
+    answers::active_below_a(*m)
+}
+
+// The same in the static window.
+#[no_mangle]
+pub extern "C" fn latency_monitor_static_below_a(m: &Monitor) -> PlainBelowA
+    ensures { λ r. ⌜ r ≡ asBelowA (countsBelowA Static (now (m .entry))) ⌝ }
+{
+    answers::static_below_a(*m)
+}
+
 // A page of 512 bytes read back into its fields.
 #[no_mangle]
 pub extern "C" fn latency_monitor_read_page(fields: &mut Reading, page: &[u8]) -> u8
@@ -137,20 +154,4 @@ pub extern "C" fn latency_monitor_read_page(fields: &mut Reading, page: &[u8]) -
     let o = reading::read_into(*fields, page);
     *fields = o.next;
     answers::refusal(o.answer)
-}
-
-// Completions below threshold A in the active window.
-#[no_mangle]
-pub extern "C" fn latency_monitor_active_below_a(m: &Monitor) -> PlainBelowA
-    ensures { λ r. ⌜ r ≡ standInActive (now (m .entry)) ⌝ }
-{
-    answers::active_below_a(*m)
-}
-
-// The same in the static window.
-#[no_mangle]
-pub extern "C" fn latency_monitor_static_below_a(m: &Monitor) -> PlainBelowA
-    ensures { λ r. ⌜ r ≡ standInStatic (now (m .entry)) ⌝ }
-{
-    answers::static_below_a(*m)
 }

@@ -1,7 +1,9 @@
 -- `latency_monitor_active_below_a`, by the walk of a function that hands on what its rule answers.
 use base.Logic.{emp}
 use contract.Monad.{factI}
-use Rattle.latency_monitor.specs.Answers.{standInActive}
+use Rattle.monitor.specs.Report.{countsBelowA}
+use Rattle.monitor.specs.declared.report.WindowChoice.the-variants.{Active}
+use Rattle.latency_monitor.specs.Answers.{asBelowA}
 use Rattle.latency_monitor.proofs.AnswerTypes.{the-record, plain-below-a}
 use Rattle.latency_monitor.proofs.Parameters.{none}
 use Rattle.latency_monitor.proofs.Shown.{shows}
@@ -15,7 +17,7 @@ use Rattle.latency_monitor.proofs.latency_monitor_active_below_a.Code a
 pub latency-monitor-active-below-a-spec : {M : Type 1} → statement M
 unfolding code.routine
 latency-monitor-active-below-a-spec 𝓤 H 𝓜 𝓖 𝓡 =
-    shows the-record plain-below-a #rule {n = 0} none (λ _ m _. standInActive m)
+    shows the-record plain-below-a #rule {n = 0} none (λ _ m _. asBelowA (countsBelowA Active m))
     𝓤 H 𝓜 𝓖 𝓡 code.env #self (code.unfolded 𝓤 H 𝓜 𝓡)
     code.calls-latency-monitor·answers·active-below-a (rule.met 𝓤 H 𝓜 𝓖 𝓡)
     (f.clauses 𝓤 H (𝓖 .A) (𝓜 .mem) (𝓡 .run)) (λ κs a g r e same. factI 𝓤 _ (emp 𝓤) same)
