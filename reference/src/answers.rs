@@ -1,6 +1,8 @@
 //! What the calls of a history answer, asked of the history itself.
 
-use crate::facts::{all_counted, first_trigger, latest_load, window_number, Counted};
+use crate::facts::{
+    all_completions, below_a, first_trigger, is_in, latest_load, number_of, window_number, BelowA, Completion,
+};
 use crate::history::{refusal, Call};
 
 #[derive(Clone, Copy, Debug, PartialEq)]
@@ -18,43 +20,47 @@ pub enum Answer {
     Elapsed {
         ended: bool,
     },
+    /// By kind.
+    BelowA(BelowA),
 }
 
 /// The answer to the last call of a history.
 pub fn answer(history: &[Call]) -> Answer {
-    last(history, &all_counted(history))
+    last(history, &all_completions(history))
 }
 
-/// The answer to each call. Whether a completion counts goes by what is before it, so that is asked once for all.
+/// The answer to each call. What a completion is goes by what is before it, so that is asked once for all.
 pub fn answers(history: &[Call]) -> Vec<Answer> {
-    let counted = all_counted(history);
-    let before = |end: usize| counted.partition_point(|c| c.place < end);
-    (1..=history.len()).map(|end| last(&history[..end], &counted[..before(end)])).collect()
+    let completions = all_completions(history);
+    let before = |end: usize| completions.partition_point(|c| c.place < end);
+    (1..=history.len()).map(|end| last(&history[..end], &completions[..before(end)])).collect()
 }
 
-/// The answer to the last call of a history with these counted completions.
-fn last(history: &[Call], counted: &[Counted]) -> Answer {
+/// The answer to the last call of a history with these enabled completions.
+fn last(history: &[Call], completions: &[Completion]) -> Answer {
     let call = history.last().expect("a call");
     match (refusal(call), call) {
         (Some(number), _) => Answer::Refused(number),
-        (None, Call::Completion { .. }) => completion(history, counted),
+        (None, Call::Completion { .. }) => completion(history, completions),
         (None, Call::Elapsed(_)) => Answer::Elapsed { ended: ended(history) },
+        (None, Call::BelowA(window)) => Answer::BelowA(below_a(history, completions, number_of(history, *window))),
         (None, _) => Answer::Done,
     }
 }
 
 /// The stamp is loaded if this completion is its counter's last load in the window, and a debug log taken if it is the
 /// first trigger since the last discard.
-fn completion(history: &[Call], counted: &[Counted]) -> Answer {
+fn completion(history: &[Call], completions: &[Completion]) -> Answer {
     let place = history.len() - 1;
-    let Some(this) = counted.last().filter(|c| c.place == place) else { return Answer::NotCounted };
+    let this = completions.last().filter(|c| c.place == place);
+    let Some(counter) = this.and_then(|c| c.counter) else { return Answer::NotCounted };
     let number = window_number(history, place);
-    let alike = |c: &&Counted| c.counter == this.counter && window_number(history, c.place) == number;
-    let in_window: Vec<&Counted> = counted.iter().filter(alike).collect();
+    let alike = |c: &&Completion| c.counter == Some(counter) && is_in(history, c.place, number);
+    let in_window: Vec<&Completion> = completions.iter().filter(alike).collect();
     Answer::Counted {
-        counter: this.counter,
-        loaded: latest_load(&in_window).is_some_and(|c| c.place == place),
-        debug: first_trigger(history, counted).is_some_and(|c| c.place == place),
+        counter,
+        loaded: latest_load(history, &in_window).is_some_and(|c| c.place == place),
+        debug: first_trigger(history, completions).is_some_and(|c| c.place == place),
     }
 }
 

@@ -1,11 +1,13 @@
 //! The facts of a history, each asked of the history itself. A place is the number of calls before it.
 
 use crate::history::{
-    accepted_clock, accepted_elapsed, accepted_settings, Call, Settings, INCREMENT_MS, TIMESTAMP_TOP,
+    accepted_clock, accepted_elapsed, accepted_settings, Call, Settings, Window, INCREMENT_MS, TIMESTAMP_TOP,
 };
 
 /// Counters: 3 x bucket + kind, where the kind is Read 0, Write 1 or Deallocate 2.
 pub const COUNTERS: usize = 12;
+/// A preset's counter number for the count below A of kind 0. Those of the other kinds follow.
+pub const BELOW_A: usize = COUNTERS;
 /// A latency stamp that is not valid.
 pub const NO_STAMP: u64 = u64::MAX;
 
@@ -20,17 +22,32 @@ pub struct Event {
 /// What stands in an event's place where there is none.
 pub(crate) const NO_EVENT: Event = Event { measured_latency: 0, stamp: NO_STAMP, stamp_unit: false };
 
-/// A completion that counts, with all that its own place says about it.
+/// An enabled completion of a kind.
 #[derive(Clone, Copy, Debug)]
-pub(crate) struct Counted {
+pub(crate) struct Completion {
     pub(crate) place: usize,
-    pub(crate) counter: usize,
-    event: Event,
-    /// Time elapsed from the history's start to its place.
-    time: u64,
-    largest: bool,
-    minimum_window_ms: u64,
-    triggers: bool,
+    pub(crate) kind: usize,
+    /// The counter that counts it; below A there is none.
+    pub(crate) counter: Option<usize>,
+    measured_latency: u16,
+    /// In force at its place.
+    settings: Settings,
+}
+
+impl Completion {
+    fn largest(&self) -> bool {
+        self.counter.is_some_and(|counter| bit(self.settings.mode, counter))
+    }
+
+    fn triggers(&self) -> bool {
+        self.counter.is_some_and(|counter| bit(self.settings.debug_trigger, counter))
+    }
+
+    /// What a latency stamp records of it.
+    fn event(&self, history: &[Call]) -> Event {
+        let (stamp, stamp_unit) = clock(&history[..self.place]);
+        Event { measured_latency: self.measured_latency, stamp, stamp_unit }
+    }
 }
 
 /// What one counter of a window shows.
@@ -43,7 +60,10 @@ pub struct CounterFacts {
 /// What a window shows, by counter number.
 pub type WindowFacts = [CounterFacts; COUNTERS];
 
-/// All that the page and the settings given back show.
+/// A window's counts below A, by kind.
+pub type BelowA = [u32; 3];
+
+/// All that the page and the settings given back show, and the counts below A.
 #[derive(Debug, PartialEq)]
 pub struct Facts {
     pub settings: Settings,
@@ -51,20 +71,25 @@ pub struct Facts {
     pub active_window: WindowFacts,
     pub static_window: WindowFacts,
     pub debug_log: Option<(usize, Event)>,
+    pub active_below_a: BelowA,
+    pub static_below_a: BelowA,
 }
 
 /// The facts at the end of a history.
 pub fn facts(history: &[Call]) -> Facts {
-    let counted = all_counted(history);
-    let number = window_number(history, history.len());
-    let window =
-        |n: Option<u64>| -> WindowFacts { std::array::from_fn(|counter| counter_facts(history, &counted, counter, n)) };
+    let completions = all_completions(history);
+    let [active, finished] = [Window::Active, Window::Static].map(|window| number_of(history, window));
+    let window = |number: Option<u64>| -> WindowFacts {
+        std::array::from_fn(|counter| counter_facts(history, &completions, counter, number))
+    };
     Facts {
         settings: in_force(history),
         timer: timer(history),
-        active_window: window(number),
-        static_window: window(number.and_then(|n| n.checked_sub(1))),
-        debug_log: first_trigger(history, &counted).map(|c| (c.counter, c.event)),
+        active_window: window(active),
+        static_window: window(finished),
+        debug_log: first_trigger(history, &completions).and_then(|c| Some((c.counter?, c.event(history)))),
+        active_below_a: below_a(history, &completions, active),
+        static_below_a: below_a(history, &completions, finished),
     }
 }
 
@@ -141,70 +166,93 @@ fn bit(mask: u16, n: usize) -> bool {
     mask >> n & 1 == 1
 }
 
-/// The completions that count, in order.
-pub(crate) fn all_counted(history: &[Call]) -> Vec<Counted> {
-    (0..history.len()).filter_map(|place| counted(history, place)).collect()
+/// The enabled completions of a kind, in order.
+pub(crate) fn all_completions(history: &[Call]) -> Vec<Completion> {
+    (0..history.len()).filter_map(|place| completion(history, place)).collect()
 }
 
-/// The call at a place as a completion that counts, if it is one.
-fn counted(history: &[Call], place: usize) -> Option<Counted> {
+/// The call at a place as an enabled completion of a kind, if it is one.
+fn completion(history: &[Call], place: usize) -> Option<Completion> {
     let Call::Completion { opcode, latency_us } = history[place] else { return None };
-    let before = &history[..place];
-    let settings = in_force(before);
+    let settings = in_force(&history[..place]);
     if !settings.enabled() {
         return None;
     }
-    let counter = 3 * bucket(settings.thresholds, latency_us)? + kind(opcode)?;
-    let (stamp, stamp_unit) = clock(before);
-    let measured_latency = u16::try_from(latency_us / 1_000).unwrap_or(u16::MAX);
-    Some(Counted {
+    let kind = kind(opcode)?;
+    Some(Completion {
         place,
-        counter,
-        event: Event { measured_latency, stamp, stamp_unit },
-        time: time(before),
-        largest: bit(settings.mode, counter),
-        minimum_window_ms: 100 * u64::from(settings.minimum_window),
-        triggers: bit(settings.debug_trigger, counter),
+        kind,
+        counter: bucket(settings.thresholds, latency_us).map(|bucket| 3 * bucket + kind),
+        measured_latency: u16::try_from(latency_us / 1_000).unwrap_or(u16::MAX),
+        settings,
     })
 }
 
-/// One counter of the window with this number; without a number the window is empty.
-fn counter_facts(history: &[Call], counted: &[Counted], counter: usize, number: Option<u64>) -> CounterFacts {
-    let here = |place: usize| number.is_some() && window_number(history, place) == number;
-    let completions: Vec<&Counted> = counted.iter().filter(|c| c.counter == counter && here(c.place)).collect();
+/// The number of a history's active or static window, if there is one.
+pub(crate) fn number_of(history: &[Call], window: Window) -> Option<u64> {
+    let active = window_number(history, history.len())?;
+    match window {
+        Window::Active => Some(active),
+        Window::Static => active.checked_sub(1),
+    }
+}
+
+/// Whether a place is in the window with this number; without a number the window is empty.
+pub(crate) fn is_in(history: &[Call], place: usize, number: Option<u64>) -> bool {
+    number.is_some() && window_number(history, place) == number
+}
+
+/// One counter of the window with this number.
+fn counter_facts(history: &[Call], completions: &[Completion], counter: usize, number: Option<u64>) -> CounterFacts {
+    let counted = |c: &&Completion| c.counter == Some(counter) && is_in(history, c.place, number);
+    let counted: Vec<&Completion> = completions.iter().filter(counted).collect();
+    CounterFacts {
+        count: count(history, &counted, counter, number),
+        latest_load: latest_load(history, &counted).map(|c| c.event(history)),
+    }
+}
+
+/// The counts below A of the window with this number.
+pub(crate) fn below_a(history: &[Call], completions: &[Completion], number: Option<u64>) -> BelowA {
+    std::array::from_fn(|kind| {
+        let below = |c: &&Completion| c.counter.is_none() && c.kind == kind && is_in(history, c.place, number);
+        let below: Vec<&Completion> = completions.iter().filter(below).collect();
+        count(history, &below, BELOW_A + kind, number)
+    })
+}
+
+/// How many these completions of a window are, held at the top. A preset in the window stands for all before it.
+fn count(history: &[Call], completions: &[&Completion], preset: usize, number: Option<u64>) -> u32 {
     let preset = (0..history.len()).rev().find_map(|place| match history[place] {
-        Call::Preset { counter: c, value } if c == counter && here(place) => Some((place, value)),
+        Call::Preset { counter, value } if counter == preset && is_in(history, place, number) => Some((place, value)),
         _ => None,
     });
     let (from, start) = preset.unwrap_or((0, 0));
     let more = completions.iter().filter(|c| c.place >= from).count() as u64;
-    CounterFacts {
-        count: u32::try_from(u64::from(start) + more).unwrap_or(u32::MAX),
-        latest_load: latest_load(&completions).map(|c| c.event),
-    }
+    u32::try_from(u64::from(start) + more).unwrap_or(u32::MAX)
 }
 
 /// The last load among a counter's completions in a window.
-pub(crate) fn latest_load<'a>(completions: &[&'a Counted]) -> Option<&'a Counted> {
-    completions.iter().fold(None, |load, &c| if loads(c, load) { Some(c) } else { load })
+pub(crate) fn latest_load<'a>(history: &[Call], completions: &[&'a Completion]) -> Option<&'a Completion> {
+    completions.iter().fold(None, |load, &c| if loads(history, c, load) { Some(c) } else { load })
 }
 
 /// The first completion loads, and in mode largest each that shows more than the last load before it, at least the
 /// minimum window after it.
-fn loads(completion: &Counted, last_load: Option<&Counted>) -> bool {
+fn loads(history: &[Call], completion: &Completion, last_load: Option<&Completion>) -> bool {
     match last_load {
         None => true,
         Some(load) => {
-            completion.largest
-                && completion.event.measured_latency > load.event.measured_latency
-                && completion.time - load.time >= completion.minimum_window_ms
+            completion.largest()
+                && completion.measured_latency > load.measured_latency
+                && time(&history[load.place..completion.place]) >= 100 * u64::from(completion.settings.minimum_window)
         }
     }
 }
 
 /// The first trigger since the debug log was last discarded.
-pub(crate) fn first_trigger<'a>(history: &[Call], counted: &'a [Counted]) -> Option<&'a Counted> {
+pub(crate) fn first_trigger<'a>(history: &[Call], completions: &'a [Completion]) -> Option<&'a Completion> {
     let discard = history.iter().rposition(|c| accepted_settings(c).is_some_and(|s| s.discard == 1));
     let since = discard.map_or(0, |p| p + 1);
-    counted.iter().find(|c| c.place >= since && c.triggers)
+    completions.iter().find(|c| c.place >= since && c.triggers())
 }

@@ -1,15 +1,16 @@
 //! The vectors, group by group.
 
+use crate::below_a;
 use crate::events::{unnamed, Events, Preset, RECORD};
 use crate::history::{Settings, TIMESTAMP_TOP};
 use crate::pages;
 use crate::random::Random;
 use crate::vectors::{EventVector, Group, SettingsVector, Vectors};
 
-const READ: u8 = 0x02;
-const WRITE: u8 = 0x01;
-const DEALLOCATE: u8 = 0x09;
-const KINDS: [u8; 3] = [READ, WRITE, DEALLOCATE];
+pub(crate) const READ: u8 = 0x02;
+pub(crate) const WRITE: u8 = 0x01;
+pub(crate) const DEALLOCATE: u8 = 0x09;
+pub(crate) const KINDS: [u8; 3] = [READ, WRITE, DEALLOCATE];
 pub(crate) const LARGEST: u16 = 0x0FFF;
 /// The records that the page program reads at a time.
 const BLOCK: usize = 4_096;
@@ -32,6 +33,7 @@ pub fn groups() -> Vec<Group> {
         events("random mixtures", random_mixtures(&mut Random::new(4))),
         events("damaged", damaged(&mut Random::new(5))),
         event_vectors("counters at their top", counters_at_their_top()),
+        event_vectors("below threshold a", below_a::vectors()),
         event_vectors("page buffers", page_buffers()),
         event_vectors("back buffers", back_buffers()),
         settings("settings lengths", settings_lengths()),
@@ -55,8 +57,14 @@ fn settings(name: &'static str, vectors: Vec<SettingsVector>) -> Group {
 }
 
 /// An event file with no presets and with buffers of the right lengths.
-fn plain(file: Events) -> EventVector {
+pub(crate) fn plain(file: Events) -> EventVector {
     EventVector { file: file.0, presets: vec![], page_buffer: 512, back_buffer: 4096 }
+}
+
+/// An event file with presets: for each the counter, its value and the record that it stands before.
+pub(crate) fn with_presets(file: Events, presets: &[(usize, u32, u32)]) -> EventVector {
+    let preset = |&(counter, value, record): &(usize, u32, u32)| Preset { counter: counter as u8, value, record };
+    EventVector { presets: presets.iter().map(preset).collect(), ..plain(file) }
 }
 
 /// The settings of the scope paper's example, without its trigger.
@@ -81,6 +89,12 @@ pub(crate) fn latency(counter: usize) -> u32 {
 /// A completion for each counter, in the order of their numbers.
 pub(crate) fn each_counter(file: Events) -> Events {
     (0..12).fold(file, |f, n| f.completion(opcode(n), latency(n) + 1_000 * n as u32 / 4))
+}
+
+/// Reads once, writes twice and deallocates three times, so that no two kinds have the same count.
+pub(crate) fn each_kind(file: Events, us: u32) -> Events {
+    let kinds = KINDS.into_iter().enumerate();
+    kinds.fold(file, |file, (times, opcode)| (0..=times).fold(file, |f, _| f.completion(opcode, us)))
 }
 
 /// The scope paper's printed example.
@@ -128,16 +142,13 @@ fn thresholds() -> Vec<Events> {
         }
         latencies.sort();
         latencies.dedup();
-        // One latency a file, so that a wrong bucket shows; reads once, writes twice, deallocates three times.
+        // One latency a file, so that a wrong bucket shows.
         for &us in &latencies {
             let mut file = start(settings).elapsed(3);
             for other in [0, 3, 8, 255] {
                 file = file.completion(other, us);
             }
-            for (times, opcode) in KINDS.into_iter().enumerate() {
-                file = (0..=times).fold(file, |f, _| f.completion(opcode, us));
-            }
-            files.push(file);
+            files.push(each_kind(file, us));
         }
         // And all together.
         let all = latencies.iter().flat_map(|&us| KINDS.map(|k| (k, us)));
@@ -551,7 +562,7 @@ fn unnamed_bytes() -> Vec<Events> {
 }
 
 /// Settings that break each of the rows 3 to 6 that are asked for, in one of several ways.
-fn breaking(rows: [bool; 4], way: usize) -> Settings {
+pub(crate) fn breaking(rows: [bool; 4], way: usize) -> Settings {
     let mut s = Settings { mode: 0x0F0F, minimum_window: 3, debug_trigger: 0x00F0, ..base() };
     if rows[0] {
         (s.discard, s.enable) = [(2, 1), (0, 2), (255, 255), (1, 255), (128, 0)][way % 5];
@@ -714,7 +725,7 @@ pub(crate) fn random_timestamp(random: &mut Random) -> u64 {
     }
 }
 
-fn random_event(random: &mut Random, file: Events) -> Events {
+pub(crate) fn random_event(random: &mut Random, file: Events) -> Events {
     match random.below(200) {
         0..=124 => {
             let opcode = match random.below(20) {
@@ -798,11 +809,7 @@ fn damaged(random: &mut Random) -> Vec<Events> {
 fn counters_at_their_top() -> Vec<EventVector> {
     let top = u32::MAX;
     let mut vectors = Vec::new();
-    let mut add = |file: Events, presets: &[(usize, u32, u32)]| {
-        let presets =
-            presets.iter().map(|&(counter, value, record)| Preset { counter: counter as u8, value, record }).collect();
-        vectors.push(EventVector { presets, ..plain(file) });
-    };
+    let mut add = |file: Events, presets: &[(usize, u32, u32)]| vectors.push(with_presets(file, presets));
     // Each counter, from two below its top.
     for n in 0..12 {
         for more in 1..=3 {

@@ -56,6 +56,13 @@ impl Settings {
     }
 }
 
+/// One of a monitor's two windows.
+#[derive(Clone, Copy, Debug, PartialEq)]
+pub enum Window {
+    Active,
+    Static,
+}
+
 /// One call.
 #[derive(Clone, Debug)]
 pub enum Call {
@@ -72,7 +79,9 @@ pub enum Call {
     Page(usize),
     /// Settings back, with the length of the lent buffer.
     SettingsBack(usize),
-    /// For tests: the active window's counter was counted up to this value here.
+    /// The counts below A of a window.
+    BelowA(Window),
+    /// For tests: the active window's counter was counted up to this value here. 12 to 14 are its counts below A.
     Preset {
         counter: usize,
         value: u32,

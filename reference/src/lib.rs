@@ -1,6 +1,7 @@
 //! A latency monitor computed from the facts of a history, apart from the product, to compare the product with.
 
 pub mod answers;
+pub mod below_a;
 pub mod events;
 pub mod facts;
 pub mod groups;

@@ -247,6 +247,8 @@ fn random_facts(random: &mut Random, percent: u64) -> Facts {
         active_window: random_window(random, percent),
         static_window: random_window(random, percent),
         debug_log: random.chance(percent).then(|| (random.below(12) as usize, random_event(random))),
+        active_below_a: [0; 3],
+        static_below_a: [0; 3],
     }
 }
 

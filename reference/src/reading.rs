@@ -39,7 +39,7 @@ pub fn zero_places() -> Vec<usize> {
     places
 }
 
-/// The facts that a page shows, or the number by which it is turned away.
+/// The facts that a page shows, or the number by which it is turned away. Of the counts below A it shows nothing.
 pub fn read_page(page: &[u8]) -> Result<Facts, u8> {
     if page.len() != PAGE_LENGTH {
         return Err(13);
@@ -56,6 +56,8 @@ pub fn read_page(page: &[u8]) -> Result<Facts, u8> {
         active_window: window(&page[BLOCKS[0]..])?,
         static_window: window(&page[BLOCKS[1]..])?,
         debug_log: debug_log(page)?,
+        active_below_a: [0; 3],
+        static_below_a: [0; 3],
     })
 }
 

@@ -1,8 +1,8 @@
 use crate::answers::{answer, answers, Answer};
 use crate::events::{printed, read, record_answers, Events, Preset, Refused};
-use crate::facts::{facts, Facts};
-use crate::groups::{example, groups};
-use crate::history::{refusal, Call, Settings};
+use crate::facts::{facts, in_force, Facts, BELOW_A};
+use crate::groups::{each_kind, example, groups, random_mixture};
+use crate::history::{accepted_elapsed, accepted_settings, refusal, Call, Settings, Window, INCREMENT_MS};
 use crate::page::{page, page_bytes, settings_back};
 use crate::pages;
 use crate::random::Random;
@@ -200,7 +200,179 @@ fn counter_at_its_top() {
     }
 }
 
-/// What the reference writes it reads back as the facts behind it.
+fn facts_of(file: Events) -> Facts {
+    facts(&read(&file.0, &[]).0)
+}
+
+/// The counts below A of the active and of the static window.
+fn below_a(facts: &Facts) -> [[u32; 3]; 2] {
+    [facts.active_below_a, facts.static_below_a]
+}
+
+/// Random histories, with the calls that only read among the others.
+fn random_histories(seed: u64) -> Vec<Vec<Call>> {
+    let mut random = Random::new(seed);
+    let mut histories = Vec::new();
+    for _ in 0..300 {
+        let records = random.from(20, 120);
+        let mut history = Vec::new();
+        for call in read(&random_mixture(&mut random, records).0, &[]).0 {
+            history.push(call);
+            if random.chance(20) {
+                history.push(reading_call(&mut random));
+            }
+        }
+        histories.push(history);
+    }
+    histories
+}
+
+fn reading_call(random: &mut Random) -> Call {
+    match random.below(4) {
+        0 => Call::Page(random.pick(&[511, 512])),
+        1 => Call::SettingsBack(random.pick(&[4_095, 4_096])),
+        2 => Call::BelowA(Window::Active),
+        _ => Call::BelowA(Window::Static),
+    }
+}
+
+#[test]
+fn below_a_edges() {
+    for a in [0, 1, 255] {
+        let settings = Settings { thresholds: [a, 255, 255, 255], ..base() };
+        let reached = 5_000 * (u32::from(a) + 1);
+        for (us, expected) in [(0, [1, 2, 3]), (reached - 1, [1, 2, 3]), (reached, [0; 3]), (reached + 1, [0; 3])] {
+            let file = each_kind(Events::default().settings(settings), us);
+            let answers = record_answers(&file.0, &[]);
+            assert!(answers[1..].iter().all(|&answer| (answer == Answer::NotCounted) == (us < reached)));
+            assert_eq!(below_a(&facts_of(file)), [expected, [0; 3]]);
+        }
+    }
+    // No kind, and nothing enabled.
+    assert_eq!(below_a(&facts_of(Events::default().settings(base()).completion(0x08, 0))), [[0; 3]; 2]);
+    assert_eq!(below_a(&facts_of(each_kind(Events::default(), 0))), [[0; 3]; 2]);
+}
+
+#[test]
+fn below_a_with_the_window() {
+    let enabled = Settings { timer_threshold: 1, ..base() };
+    let file = each_kind(Events::default().settings(enabled), 0).elapsed(300_000).completion(READ, 0);
+    let both = [[1, 0, 0], [1, 2, 3]];
+    assert_eq!(below_a(&facts_of(file.clone())), both);
+    assert_eq!(below_a(&facts_of(file.clone().power_up().timestamp(9))), both);
+    assert_eq!(below_a(&facts_of(file.clone().settings(Settings { timer_threshold: 0, ..base() }))), both);
+    // Kept and frozen with enable 0, emptied with enable 1.
+    let frozen = file.clone().settings(Settings { enable: 0, ..enabled }).completion(READ, 0).elapsed(300_000);
+    assert_eq!(below_a(&facts_of(frozen.clone())), both);
+    assert_eq!(below_a(&facts_of(frozen.settings(enabled))), [[0; 3]; 2]);
+    assert_eq!(below_a(&facts_of(file.clone().settings(enabled))), [[0; 3]; 2]);
+    // Moved at the end of a window, also of an empty one.
+    assert_eq!(below_a(&facts_of(file.clone().elapsed(300_000))), [[0; 3], [1, 0, 0]]);
+    assert_eq!(below_a(&facts_of(file.elapsed(300_000).elapsed(300_000))), [[0; 3]; 2]);
+}
+
+#[test]
+fn below_a_at_its_top() {
+    let file = each_kind(each_kind(Events::default().settings(base()), 0), 0);
+    for (kind, more) in [1, 2, 3].into_iter().enumerate() {
+        for value in [7, u32::MAX - more, u32::MAX - 1, u32::MAX] {
+            let preset = Preset { counter: (BELOW_A + kind) as u8, value, record: 7 };
+            let mut expected = [2, 4, 6];
+            expected[kind] = value.saturating_add(more);
+            assert_eq!(facts(&read(&file.0, &[preset]).0).active_below_a, expected);
+        }
+    }
+}
+
+/// The call answers the counts of its window, and moves nothing; neither do the others that only read.
+#[test]
+fn below_a_calls() {
+    for history in random_histories(21) {
+        for (history, answer) in (1..=history.len()).map(|end| &history[..end]).zip(answers(&history)) {
+            match history.last() {
+                Some(Call::BelowA(Window::Active)) => assert_eq!(answer, Answer::BelowA(facts(history).active_below_a)),
+                Some(Call::BelowA(Window::Static)) => assert_eq!(answer, Answer::BelowA(facts(history).static_below_a)),
+                _ => {}
+            }
+        }
+        let reads = |call: &&Call| matches!(call, Call::Page(_) | Call::SettingsBack(_) | Call::BelowA(_));
+        let without: Vec<Call> = history.iter().filter(|call| !reads(call)).cloned().collect();
+        assert_eq!(facts(&without), facts(&history));
+    }
+}
+
+/// The enabled completions of each kind in the active and in the static window, counted call by call.
+fn completions(history: &[Call]) -> [[u64; 3]; 2] {
+    let mut settings = Settings::default();
+    let mut time = 0;
+    let mut windows = [[0; 3]; 2];
+    for call in history {
+        if let Some(accepted) = accepted_settings(call) {
+            settings = accepted;
+            (time, windows) = if settings.enabled() { (0, [[0; 3]; 2]) } else { (time, windows) };
+        }
+        if !settings.enabled() {
+            continue;
+        }
+        let length = INCREMENT_MS * u64::from(settings.timer_threshold);
+        time += accepted_elapsed(call);
+        if time >= length {
+            (time, windows) = (time - length, [[0; 3], windows[0]]);
+        }
+        if let Call::Completion { opcode, .. } = call {
+            if let Some(kind) = [0x02, 0x01, 0x09].iter().position(|kind| kind == opcode) {
+                windows[0][kind] += 1;
+            }
+        }
+    }
+    windows
+}
+
+/// The five counts of a kind are together the enabled completions of that kind in the window.
+#[test]
+fn five_counts() {
+    let mut on_both_sides = [0; 2];
+    for history in random_histories(22) {
+        let facts = facts(&history);
+        let windows = [(facts.active_window, facts.active_below_a), (facts.static_window, facts.static_below_a)];
+        for (n, (window, below_a)) in windows.into_iter().enumerate() {
+            for kind in 0..3 {
+                let counted: u64 = (0..4).map(|bucket| u64::from(window[3 * bucket + kind].count)).sum();
+                let below = u64::from(below_a[kind]);
+                assert_eq!(counted + below, completions(&history)[n][kind]);
+                on_both_sides[n] += u32::from(counted > 0 && below > 0);
+            }
+        }
+    }
+    assert!(on_both_sides.iter().all(|&times| times > 50));
+}
+
+/// Without its completions below A a history has the same page, and the same answers but for the counts below A.
+#[test]
+fn pages_without_below_a() {
+    let mut differ = 0;
+    for history in random_histories(23) {
+        let below = |place: usize| match history[place] {
+            Call::Completion { latency_us, .. } => {
+                latency_us < 5_000 * (u32::from(in_force(&history[..place]).thresholds[0]) + 1)
+            }
+            _ => false,
+        };
+        let others: Vec<usize> = (0..history.len()).filter(|&place| !below(place)).collect();
+        let without: Vec<Call> = others.iter().map(|&place| history[place].clone()).collect();
+        let behind = facts(&history);
+        differ += u32::from(below_a(&behind) != [[0; 3]; 2]);
+        assert_eq!(page(&without, 512), page(&history, 512));
+        assert_eq!(facts(&without), Facts { active_below_a: [0; 3], static_below_a: [0; 3], ..behind });
+        let given = answers(&history);
+        for (answer, &place) in answers(&without).into_iter().zip(&others) {
+            assert!(answer == given[place] || matches!(given[place], Answer::BelowA(_)));
+        }
+    }
+    assert!(differ > 100);
+}
+
+/// What the reference writes it reads back as the facts behind it, but for the discard byte and the counts below A.
 #[test]
 fn written_pages_are_read() {
     for group in groups() {
@@ -209,7 +381,8 @@ fn written_pages_are_read() {
             let behind = facts(&read(&vector.file, &vector.presets).0);
             let page = page_bytes(&behind);
             let settings = Settings { discard: 0, ..behind.settings };
-            assert_eq!(read_page(&page), Ok(Facts { settings, ..behind }));
+            let shown = Facts { settings, active_below_a: [0; 3], static_below_a: [0; 3], ..behind };
+            assert_eq!(read_page(&page), Ok(shown));
         }
     }
 }
@@ -312,7 +485,7 @@ fn groups_of_pages() {
 #[test]
 fn vectors_are_in_the_format() {
     let file = vectors::write(&groups());
-    assert!(file.len() < 2_800_000);
+    assert!(file.len() < 2_900_000);
     assert!(vectors::check(&file).is_ok());
     assert!(vectors::check(&file[..file.len() - 1]).is_err());
     // The end of the last listing.
@@ -358,7 +531,9 @@ fn presets_are_in_place() {
             for preset in &vector.presets {
                 let before = facts(&read(&vector.file[..16 * preset.record as usize], &vector.presets).0);
                 assert!(before.settings.enabled());
-                assert!(before.active_window[usize::from(preset.counter)].count > 0);
+                let counters = before.active_window.iter().map(|shown| shown.count);
+                let mut counts = counters.chain(before.active_below_a);
+                assert!(counts.nth(preset.counter.into()).is_some_and(|count| count > 0));
                 assert!(preset.value >= u32::MAX - 2);
             }
         }

@@ -7,10 +7,10 @@
 //!
 //! An event vector, played on a new monitor, is
 //! - the length of an event file (u32, at most 131,072) and its bytes, also 1 to 15 after the last whole record;
-//! - the number of presets (u8), and for each a counter number (u8, 0 to 11), a value (u32) and a record number (u32):
-//!   just before that record is read, the counter of the active window is set to the value. Records count from 0, the
-//!   record is a whole one of the file, presets stand in order of it, the counter has been counted in the window, and
-//!   the monitor is enabled;
+//! - the number of presets (u8), and for each a counter number (u8, 0 to 14), a value (u32) and a record number (u32):
+//!   just before that record is read, the counter of the active window is set to the value, where 12 to 14 are the
+//!   counts below A of Read, Write and Deallocate. Records count from 0, the record is a whole one of the file, presets
+//!   stand in order of it, the counter has been counted in the window, and the monitor is enabled;
 //! - the number of answers (u16), and each of them (u16): one for each whole record, and one for the end of the file.
 //!   An answer is 8 x N if refused by N, which is 12 at the end with bytes left over; 1 'done', also at the end with
 //!   none; 2 'not counted'; 3 if counted, with 8 more if the stamp was loaded, 16 more if a debug log was taken, and 32
@@ -20,7 +20,8 @@
 //! - the length of the buffer lent for the page (u16, at most 4,200) and the refusal (u8), 9 or 0; after 0 follow the
 //!   512 bytes of the page;
 //! - the length of the buffer lent for settings back (u16, at most 4,200) and the refusal (u8), 10 or 0; after 0 follow
-//!   bytes 0 to 12 of the settings, and all others are zero.
+//!   bytes 0 to 12 of the settings, and all others are zero;
+//! - the counts below A of the active window and then of the static one (u32), each as Read, Write and Deallocate.
 //!
 //! A settings vector, given to a new monitor, is
 //! - the length of the settings (u16, at most 4,200), all zero but for patches: their number (u8), and for each the
@@ -49,6 +50,8 @@ use crate::reading::{listing, read_page};
 
 pub const LONGEST_FILE: usize = 131_072;
 pub const LONGEST_BUFFER: u16 = 4_200;
+/// The bytes of the counts below A of both windows.
+const BELOW_A_BYTES: usize = 24;
 /// The fields of a page vector, and where they have the counts of the two windows.
 const FIELDS: usize = 389;
 const COUNTS: [usize; 2] = [14, 194];
@@ -126,9 +129,12 @@ fn write_events(out: &mut Vec<u8>, vector: &EventVector) {
     write_answer(out, &page(&history, vector.page_buffer.into()));
     out.extend(vector.back_buffer.to_le_bytes());
     write_answer(out, &settings_back(&history, vector.back_buffer.into()));
+    let facts = facts(&history);
+    let below_a = facts.active_below_a.into_iter().chain(facts.static_below_a);
+    below_a.for_each(|count| out.extend(count.to_le_bytes()));
 }
 
-/// An answer as a number.
+/// A record's answer as a number.
 pub fn coded(answer: Answer) -> u16 {
     match answer {
         Answer::Refused(number) => 8 * u16::from(number),
@@ -138,6 +144,7 @@ pub fn coded(answer: Answer) -> u16 {
             3 + 8 * u16::from(loaded) + 16 * u16::from(debug) + 32 * counter as u16
         }
         Answer::Elapsed { ended } => 4 + u16::from(ended),
+        Answer::BelowA(_) => unreachable!("no record stands for this call"),
     }
 }
 
@@ -250,7 +257,7 @@ fn check_events(reader: &mut Reader) -> Result<(), String> {
     let mut earliest = 0;
     for _ in 0..reader.u8()? {
         let (counter, _, record) = (reader.u8()?, reader.u32()?, reader.u32()?);
-        if counter > 11 || record >= records || record < earliest {
+        if counter > 14 || record >= records || record < earliest {
             return reader.wrong("a preset out of place");
         }
         earliest = record;
@@ -258,7 +265,8 @@ fn check_events(reader: &mut Reader) -> Result<(), String> {
     check_answers(reader, records, length % RECORD != 0)?;
     check_lines(reader)?;
     check_buffer(reader, PAGE_LENGTH, 9, PAGE_LENGTH)?;
-    check_buffer(reader, 4096, 10, 13)
+    check_buffer(reader, 4096, 10, 13)?;
+    reader.bytes(BELOW_A_BYTES).map(|_| ())
 }
 
 /// An answer for each record, and one for the end.

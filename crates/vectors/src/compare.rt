@@ -5,12 +5,18 @@ ghost use lib.ListN.{length};
 use events::RecordAnswer;
 use monitor::Answer;
 use monitor::Monitor;
+use monitor::WindowChoice;
 
 // What every byte of a buffer holds when it is lent. It is not zero, so that a byte left unwritten is seen.
 const LENT: u8 = 165;
 
 // The longest buffer that a vector lends.
 pub const LONGEST: usize = 4200;
+
+// A window's counts below A, and their bytes.
+const BELOW_A_WIDTHS: [usize; 3] = [4, 4, 4];
+
+pub const BELOW_A_BYTES: usize = 12;
 
 // A bit of a number, if it is set.
 fn bit(set: bool, value: u32) -> u32
@@ -104,4 +110,13 @@ pub fn settings_back(m: Monitor, n: usize, refusal: usize, bytes: &[u8]) -> bool
     } else {
         false
     }
+}
+
+// A window's counts below A.
+pub fn below_a(m: Monitor, window: WindowChoice, expected: &[u8]) -> bool {
+    let counts = m.below_a(window);
+    let values = [counts[0] as u64, counts[1] as u64, counts[2] as u64];
+    let mut bytes = [0; BELOW_A_BYTES];
+    endian::put_fields(&mut bytes, &BELOW_A_WIDTHS, &values);
+    holds(&bytes, expected, 0)
 }

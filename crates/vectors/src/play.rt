@@ -38,15 +38,20 @@ pub fn part(file: &[u8], from: usize, to: usize) -> &[u8] {
     }
 }
 
-// A preset: a counter of the active window set to a value.
+// A preset: a counter of the active window set to a value. 12 to 14 are the counts below A.
 fn preset(mut m: Monitor, s: &[u8]) -> Monitor
     requires { ⌜ length (now s) ≡ 9 ⌝ }
 {
     let counter = number(&s[0..1]) as usize;
+    let value = number(&s[1..5]);
     if counter < 12 {
         let mut w = m.active_window;
-        w.counters[counter] = number(&s[1..5]);
+        w.counters[counter] = value;
         m.active_window = w;
+    } else if counter < 15 {
+        let mut below = m.active_below_a;
+        below[counter - 12] = value;
+        m.active_below_a = below;
     }
     m
 }

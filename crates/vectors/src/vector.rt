@@ -7,6 +7,7 @@ use crate::pages;
 use crate::play;
 use monitor::Answer;
 use monitor::Monitor;
+use monitor::WindowChoice;
 
 // What came of a vector.
 pub enum Verdict {
@@ -72,6 +73,17 @@ fn settings_back(m: Monitor, single: Monitor) -> Verdict {
     both(as_a_whole, by_records)
 }
 
+// A window's counts below A, in both monitors.
+fn below_a(m: Monitor, single: Monitor, window: WindowChoice) -> Verdict {
+    let mut bytes = [0; compare::BELOW_A_BYTES];
+    if !input::fill(&mut bytes) {
+        return Verdict::Unread;
+    }
+    let as_a_whole = judged(compare::below_a(m, window, &bytes));
+    let by_records = judged(compare::below_a(single, window, &bytes));
+    both(as_a_whole, by_records)
+}
+
 // An event file by blocks, and the lines that are expected of it; no lines agree where they cannot be read.
 fn by_blocks(file: &[u8], presets: &[u8]) -> Told {
     let mut lines = io::large_buffer();
@@ -103,7 +115,10 @@ fn events() -> Verdict {
     let single = a.monitor;
     let shown = page(m, single);
     let given = settings_back(m, single);
-    both(judged(t.agrees & a.agrees), both(shown, given))
+    let active = below_a(m, single, WindowChoice::Active);
+    let last = below_a(m, single, WindowChoice::Static);
+    let read = both(both(shown, given), both(active, last));
+    both(judged(t.agrees & a.agrees), read)
 }
 
 // Puts bytes into settings, each at its place. Whether all places were there.
