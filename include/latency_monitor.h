@@ -56,7 +56,7 @@ extern "C" {
 #define LATENCY_MONITOR_SETTINGS_ENABLE 12         /* 0 or 1 */
 
 /* Changes when the record does. */
-#define LATENCY_MONITOR_RECORD_VERSION 1
+#define LATENCY_MONITOR_RECORD_VERSION 2
 
 /* Why a call is turned away; the first that applies is the answer. 11 and 12 are of event files: no call has them. */
 enum latency_monitor_refusal {
@@ -116,6 +116,8 @@ struct latency_monitor {
     uint16_t timer;   /* Active Bucket Timer, in increments of five minutes */
     bool host_set;    /* whether the host set the clock */
     uint32_t partial; /* time since the timer's last increment, in ms */
+    uint32_t static_below_a[3]; /* by kind: completions below threshold A in the static window */
+    uint32_t active_below_a[3]; /* and in the active window */
     uint64_t clock;   /* in ms */
     uint64_t loaded[LATENCY_MONITOR_COUNTERS]; /* time in the active window at the stamp's last load, in ms */
     struct latency_monitor_debug_log debug;
@@ -159,6 +161,13 @@ struct latency_monitor_elapsed_answer {
     bool ended;      /* whether the active window ended, and is the static one now */
 };
 
+/* The enabled completions below threshold A in a window, by kind, each held at 4,294,967,295. */
+struct latency_monitor_below_a {
+    uint32_t read;
+    uint32_t write;
+    uint32_t deallocate;
+};
+
 /*
  * Makes a record a new monitor's: disabled, settings zero, clock 0, both windows empty. The storage may be zeroed, as
  * static storage is, or hold a record. Zeroed storage is no new monitor itself: its stamps are set, at 0.
@@ -180,6 +189,12 @@ uint8_t latency_monitor_set_clock(struct latency_monitor *monitor, uint64_t ms);
 
 /* The drive powered up: the clock is 0, and not the host's, and all else is kept. Never turned away. */
 uint8_t latency_monitor_power_up(struct latency_monitor *monitor);
+
+/* The completions below threshold A in the active window, which no counter has and no page shows. */
+struct latency_monitor_below_a latency_monitor_active_below_a(const struct latency_monitor *monitor);
+
+/* The same in the static window. */
+struct latency_monitor_below_a latency_monitor_static_below_a(const struct latency_monitor *monitor);
 
 /* Writes log page C3h, 512 bytes; turned away by 9. */
 uint8_t latency_monitor_page(const struct latency_monitor *monitor, uint8_t *page, size_t length);
@@ -232,16 +247,18 @@ LATENCY_MONITOR_AT(latency_monitor_debug_log, latency, 8);
 LATENCY_MONITOR_AT(latency_monitor_debug_log, source, 10);
 LATENCY_MONITOR_AT(latency_monitor_debug_log, units, 12);
 
-LATENCY_MONITOR_SIZE(latency_monitor, 512);
+LATENCY_MONITOR_SIZE(latency_monitor, 536);
 LATENCY_MONITOR_AT(latency_monitor, settings, 0);
 LATENCY_MONITOR_AT(latency_monitor, timer, 12);
 LATENCY_MONITOR_AT(latency_monitor, host_set, 14);
 LATENCY_MONITOR_AT(latency_monitor, partial, 16);
-LATENCY_MONITOR_AT(latency_monitor, clock, 24);
-LATENCY_MONITOR_AT(latency_monitor, loaded, 32);
-LATENCY_MONITOR_AT(latency_monitor, debug, 128);
-LATENCY_MONITOR_AT(latency_monitor, static_window, 144);
-LATENCY_MONITOR_AT(latency_monitor, active_window, 328);
+LATENCY_MONITOR_AT(latency_monitor, static_below_a, 20);
+LATENCY_MONITOR_AT(latency_monitor, active_below_a, 32);
+LATENCY_MONITOR_AT(latency_monitor, clock, 48);
+LATENCY_MONITOR_AT(latency_monitor, loaded, 56);
+LATENCY_MONITOR_AT(latency_monitor, debug, 152);
+LATENCY_MONITOR_AT(latency_monitor, static_window, 168);
+LATENCY_MONITOR_AT(latency_monitor, active_window, 352);
 
 LATENCY_MONITOR_SIZE(latency_monitor_log_page, 400);
 LATENCY_MONITOR_AT(latency_monitor_log_page, settings, 0);
@@ -268,6 +285,11 @@ LATENCY_MONITOR_AT(latency_monitor_completion_answer, debug, 4);
 LATENCY_MONITOR_SIZE(latency_monitor_elapsed_answer, 2);
 LATENCY_MONITOR_AT(latency_monitor_elapsed_answer, refusal, 0);
 LATENCY_MONITOR_AT(latency_monitor_elapsed_answer, ended, 1);
+
+LATENCY_MONITOR_SIZE(latency_monitor_below_a, 12);
+LATENCY_MONITOR_AT(latency_monitor_below_a, read, 0);
+LATENCY_MONITOR_AT(latency_monitor_below_a, write, 4);
+LATENCY_MONITOR_AT(latency_monitor_below_a, deallocate, 8);
 
 #undef LATENCY_MONITOR_AT
 #undef LATENCY_MONITOR_SIZE
