@@ -23,9 +23,11 @@ static const struct side *const sides[SIDES] = {&product, &c_O2, &c_O3};
 /* Calls of a lap: of the short ones, and of those that go over 512 or 4,096 bytes. */
 enum { SHORT = 1536, LONG = 64 };
 
+enum { KINDS = 3 };
+
 enum { COUNTERS = LATENCY_MONITOR_COUNTERS, FIRST = 0, LARGEST = 0x0FFF, TRIGGER = 0x0249, INCREMENT_MS = 300000 };
 
-static struct latency_monitor_command below[SHORT], slow[SHORT], each_counter[COUNTERS];
+static struct latency_monitor_command below[SHORT], other[SHORT], slow[SHORT], each_counter[COUNTERS];
 static uint32_t ms[SHORT];
 static uint64_t clocks[SHORT];
 static struct named_settings settings[LONG];
@@ -36,11 +38,15 @@ static _Alignas(64) struct log_page pages[LONG];
 #define LOADED (((uint64_t)SHORT << LOADED_AT) + COUNTED)
 #define LAP_ENDED (UINT64_C(1) << (ENDED_AT + LAP_TIME_AT))
 
+/* The counts below A of a monitor that is ready. */
+#define BELOW_A (1 + (UINT64_C(2) << WRITE_AT) + (UINT64_C(3) << DEALLOCATE_AT))
+
 /* Where stamps are loaded, each lap starts with a new window. */
 static const struct work works[] = {
     [EMPTY_COMPLETION] = {.name = "empty completion", .call = EMPTY_COMPLETION, .calls = SHORT, .commands = slow},
     [EMPTY_NUMBER] = {.name = "empty call", .call = EMPTY_NUMBER, .calls = SHORT},
-    {.name = "completion, not counted", .call = COMPLETION, .calls = SHORT, .commands = below},
+    {.name = "completion, below A", .call = COMPLETION, .calls = SHORT, .commands = below},
+    {.name = "completion, of no kind", .call = COMPLETION, .calls = SHORT, .commands = other},
     {.name = "completion, counted", .call = COMPLETION, .calls = SHORT, .commands = slow, .mode = FIRST,
         .answers = COUNTED},
     {.name = "completion, loaded", .call = COMPLETION, .calls = SHORT, .commands = slow, .mode = LARGEST,
@@ -48,6 +54,8 @@ static const struct work works[] = {
     {.name = "elapsed", .call = ELAPSED, .calls = SHORT, .ms = ms},
     {.name = "set_clock", .call = SET_CLOCK, .calls = SHORT, .clocks = clocks},
     {.name = "power_up", .call = POWER_UP, .calls = SHORT},
+    {.name = "active_below_a", .call = ACTIVE_BELOW_A, .calls = SHORT, .answers = SHORT * BELOW_A},
+    {.name = "static_below_a", .call = STATIC_BELOW_A, .calls = SHORT},
     {.name = "page", .call = PAGE, .calls = LONG},
     {.name = "read_page", .call = READ_PAGE, .calls = LONG, .pages = pages},
     {.name = "settings_back", .call = SETTINGS_BACK, .calls = LONG},
@@ -87,9 +95,10 @@ static uint32_t draw(uint32_t from_zero_to_below)
 /* 5, 160, 320 and 480 ms: each bucket has room for a lap's rise, 1 ms at a time. */
 static const uint8_t thresholds[4] = {0, 31, 63, 95};
 
+static const uint8_t opcodes[KINDS] = {0x02, 0x01, 0x09};
+
 static struct latency_monitor_command command_for(int counter, uint32_t above_us)
 {
-    static const uint8_t opcodes[3] = {0x02, 0x01, 0x09};
     uint32_t threshold_us = 5000 * (thresholds[counter / 3] + 1u);
 
     return (struct latency_monitor_command){.latency = threshold_us + above_us, .opcode = opcodes[counter % 3]};
@@ -155,6 +164,8 @@ static void draw_inputs(void)
     for (int i = 0; i < SHORT; i++) {
         below[i] = command_for((int)draw(3), 0);
         below[i].latency = 20 + draw(4980);
+        other[i] = below[i];
+        other[i].opcode = (uint8_t)(10 + draw(246));
         ms[i] = draw(20);
         clocks[i] = (uint64_t)draw(1 << 16) << 32 | draw(UINT32_MAX);
     }
@@ -167,7 +178,7 @@ static void draw_inputs(void)
     draw_pages();
 }
 
-/* A monitor in use: enabled, the clock set, every stamp set, and a debug log held. */
+/* A monitor in use: enabled, the clock set, every stamp set, a debug log held, and 1, 2 and 3 completions below A. */
 static void make_ready(const struct side *side, uint16_t mode)
 {
     side->once(&(struct stroke){.call = NEW});
@@ -175,6 +186,9 @@ static void make_ready(const struct side *side, uint16_t mode)
     side->once(&(struct stroke){.call = SET_CLOCK, .clock = 1700000000000});
     for (int n = 0; n < COUNTERS; n++)
         side->once(&(struct stroke){.call = COMPLETION, .command = each_counter[n]});
+    for (int kind = 0; kind < KINDS; kind++)
+        for (int i = 0; i <= kind; i++)
+            side->once(&(struct stroke){.call = COMPLETION, .command = {.opcode = opcodes[kind]}});
 }
 
 /* Each call did what its case is about, and none was turned away. */
@@ -182,6 +196,48 @@ static void check_answers(const struct work *w, size_t laps, uint64_t sum)
 {
     if (sum != laps * w->answers)
         fail(w->name, "other answers than the case has");
+}
+
+static void check_below_a(const char *name)
+{
+    struct below_a first = sides[0]->below_a();
+
+    for (int s = 1; s < SIDES; s++) {
+        struct below_a here = sides[s]->below_a();
+        if (memcmp(&here, &first, sizeof first) != 0)
+            fail(name, "the counts below A differ");
+    }
+}
+
+static void play_alike(struct stroke stroke)
+{
+    for (int s = 0; s < SIDES; s++)
+        sides[s]->once(&stroke);
+    check_below_a("completion");
+}
+
+/* Every opcode, just below A and at A. */
+static void complete_alike(void)
+{
+    uint32_t a_us = command_for(0, 0).latency;
+
+    for (int opcode = 0; opcode < 256; opcode++)
+        for (uint32_t us = a_us - 1; us <= a_us; us++)
+            play_alike((struct stroke){.call = COMPLETION, .command = {.latency = us, .opcode = (uint8_t)opcode}});
+}
+
+/* The counts below A in a window, after its end, disabled, and enabled again. */
+static void check_counts(void)
+{
+    for (int s = 0; s < SIDES; s++)
+        make_ready(sides[s], FIRST);
+    complete_alike();
+    play_alike((struct stroke){.call = ELAPSED, .ms = INCREMENT_MS});
+    complete_alike();
+    play_alike((struct stroke){.call = CONFIGURE, .settings = settings_of(1, FIRST, TRIGGER, false)});
+    complete_alike();
+    play_alike((struct stroke){.call = CONFIGURE, .settings = settings_of(1, FIRST, TRIGGER, true)});
+    complete_alike();
 }
 
 /* What the sides show must be the same bytes. */
@@ -196,6 +252,7 @@ static void check_shown(const struct work *w)
         if (memcmp(back[s], back[0], sizeof back[0]) != 0)
             fail(w->name, "the settings given back differ");
     }
+    check_below_a(w->name);
 }
 
 /* Reads a page on each side: all turn it away by one number, or write it again as it was. Gives the number. */
@@ -294,7 +351,7 @@ static void print_ratios(size_t rounds, const double *ours, const double *c, dou
         largest = ratio > largest ? ratio : largest;
     }
     printf("\t%.2f\t%.2f\t%.2f", our_median / c_median, smallest, largest);
-    if (c_median > c_empty)
+    if (c_median > 1.05 * c_empty)
         printf("\t%.2f\n", (our_median - our_empty) / (c_median - c_empty));
     else
         printf("\t-\n");
@@ -312,6 +369,7 @@ static void print_times(size_t rounds)
     static double ns[SIDES][MOST_ROUNDS], middle[WORKS][SIDES];
 
     check_readings();
+    check_counts();
     for (int k = 0; k < WORKS; k++) {
         const double *empty = middle[empty_of(works[k].call)];
         int c;
@@ -346,7 +404,8 @@ static void note_depths(const struct side *side, size_t depth[CALLS])
         {.call = NEW}, {.call = CONFIGURE, .settings = settings_of(1, LARGEST, LARGEST, true)},
         {.call = SET_CLOCK, .clock = 1}, {.call = COMPLETION, .command = below[0]},
         {.call = COMPLETION, .command = slow[0]}, {.call = ELAPSED, .ms = 1}, {.call = ELAPSED, .ms = INCREMENT_MS},
-        {.call = ELAPSED, .ms = INCREMENT_MS + 1}, {.call = POWER_UP}, {.call = PAGE}, {.call = SETTINGS_BACK},
+        {.call = ELAPSED, .ms = INCREMENT_MS + 1}, {.call = POWER_UP}, {.call = ACTIVE_BELOW_A},
+        {.call = STATIC_BELOW_A}, {.call = PAGE}, {.call = SETTINGS_BACK},
         {.call = READ_PAGE, .page = &pages[0]}, {.call = READ_PAGE, .page = &pages[1]},
         {.call = READ_PAGE, .page = &broken}, {.call = READ_PAGE, .page = &no_page}
     };
@@ -363,7 +422,8 @@ static void print_stack(void)
 {
     static const char *const names[CALLS] = {
         [NEW] = "new", [CONFIGURE] = "configure", [COMPLETION] = "completion", [ELAPSED] = "elapsed",
-        [SET_CLOCK] = "set_clock", [POWER_UP] = "power_up", [PAGE] = "page", [READ_PAGE] = "read_page",
+        [SET_CLOCK] = "set_clock", [POWER_UP] = "power_up", [ACTIVE_BELOW_A] = "active_below_a",
+        [STATIC_BELOW_A] = "static_below_a", [PAGE] = "page", [READ_PAGE] = "read_page",
         [SETTINGS_BACK] = "settings_back"
     };
     size_t depth[SIDES][CALLS] = {{0}};

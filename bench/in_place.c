@@ -109,6 +109,8 @@ uint8_t in_place_configure(struct in_place *m, const uint8_t *s, size_t length)
     if (m->enabled) {
         empty(&m->active_window);
         empty(&m->static_window);
+        memset(m->active_below_a, 0, sizeof m->active_below_a);
+        memset(m->static_below_a, 0, sizeof m->static_below_a);
         m->timer = 0;
         m->partial = 0;
         m->time = 0;
@@ -149,17 +151,20 @@ static bool debug(struct in_place *m, unsigned n, uint16_t ms)
 /* The answer as a number: that is made in a register, where gcc takes a small struct through memory. */
 static uint64_t completed(struct in_place *m, uint8_t opcode, uint32_t us)
 {
+    /* By opcode, and no branch: no processor can guess the kind of the next command. */
+    static const uint8_t kinds[10] = {KINDS, 1, 0, KINDS, KINDS, KINDS, KINDS, KINDS, KINDS, 2};
     uint32_t ms = us / 1000;
     unsigned kind, bucket = 3, n;
     uint64_t loaded, logged;
 
-    if (!m->enabled || us < m->threshold_us[0])
+    if (!m->enabled || opcode >= sizeof kinds)
         return 0;
-    switch (opcode) {
-    case 0x02: kind = 0; break;
-    case 0x01: kind = 1; break;
-    case 0x09: kind = 2; break;
-    default: return 0;
+    kind = kinds[opcode];
+    if (kind == KINDS)
+        return 0;
+    if (us < m->threshold_us[0]) {
+        m->active_below_a[kind] += m->active_below_a[kind] != UINT32_MAX;
+        return 0;
     }
     while (us < m->threshold_us[bucket])
         bucket--;
@@ -205,6 +210,8 @@ struct latency_monitor_elapsed_answer in_place_elapsed(struct in_place *m, uint3
         m->timer = 0;
         m->static_window = m->active_window;
         empty(&m->active_window);
+        memcpy(m->static_below_a, m->active_below_a, sizeof m->static_below_a);
+        memset(m->active_below_a, 0, sizeof m->active_below_a);
         answer.ended = true;
     }
     return answer;
@@ -224,6 +231,16 @@ uint8_t in_place_power_up(struct in_place *m)
     m->clock = 0;
     m->host_set = false;
     return LATENCY_MONITOR_ACCEPTED;
+}
+
+struct latency_monitor_below_a in_place_active_below_a(const struct in_place *m)
+{
+    return (struct latency_monitor_below_a){m->active_below_a[0], m->active_below_a[1], m->active_below_a[2]};
+}
+
+struct latency_monitor_below_a in_place_static_below_a(const struct in_place *m)
+{
+    return (struct latency_monitor_below_a){m->static_below_a[0], m->static_below_a[1], m->static_below_a[2]};
 }
 
 static void put_window(uint8_t *p, const struct in_place_window *w)

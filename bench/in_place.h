@@ -7,6 +7,8 @@
 
 #include "latency_monitor.h"
 
+enum { KINDS = 3 };
+
 struct in_place_window {
     uint64_t stamp[LATENCY_MONITOR_COUNTERS];
     uint32_t count[LATENCY_MONITOR_COUNTERS];
@@ -16,6 +18,7 @@ struct in_place_window {
 
 struct in_place {
     uint32_t threshold_us[4];
+    uint32_t active_below_a[KINDS]; /* beside what is read for them */
     uint8_t thresholds[4];
     uint16_t timer_threshold;
     uint16_t mode;
@@ -35,6 +38,7 @@ struct in_place {
     uint64_t load_time[LATENCY_MONITOR_COUNTERS]; /* the time at the stamp's last load */
     struct in_place_window active_window;
     struct in_place_window static_window;
+    uint32_t static_below_a[KINDS];
 };
 
 /* What a page shows. */
@@ -62,6 +66,8 @@ struct latency_monitor_completion_answer in_place_completion(
 struct latency_monitor_elapsed_answer in_place_elapsed(struct in_place *m, uint32_t ms);
 uint8_t in_place_set_clock(struct in_place *m, uint64_t ms);
 uint8_t in_place_power_up(struct in_place *m);
+struct latency_monitor_below_a in_place_active_below_a(const struct in_place *m);
+struct latency_monitor_below_a in_place_static_below_a(const struct in_place *m);
 uint8_t in_place_page(const struct in_place *m, uint8_t *page, size_t length);
 uint8_t in_place_settings_back(const struct in_place *m, uint8_t *settings, size_t length);
 uint8_t in_place_read_page(struct in_place_reading *r, const uint8_t *page, size_t length);

@@ -31,6 +31,11 @@ static uint64_t elapsed_number(struct latency_monitor_elapsed_answer a)
     return a.refusal | (uint64_t)a.ended << ENDED_AT;
 }
 
+static uint64_t below_a_number(struct latency_monitor_below_a a)
+{
+    return a.read + ((uint64_t)a.write << WRITE_AT) + ((uint64_t)a.deallocate << DEALLOCATE_AT);
+}
+
 static const uint8_t *whole(const struct named_settings *named)
 {
     return memcpy(settings, named->bytes, sizeof named->bytes);
@@ -46,6 +51,8 @@ static uint64_t once(const struct stroke *s)
     case ELAPSED: return elapsed_number(CALL(elapsed)(&record, s->ms));
     case SET_CLOCK: return CALL(set_clock)(&record, s->clock);
     case POWER_UP: return CALL(power_up)(&record);
+    case ACTIVE_BELOW_A: return below_a_number(CALL(active_below_a)(&record));
+    case STATIC_BELOW_A: return below_a_number(CALL(static_below_a)(&record));
     case PAGE: return CALL(page)(&record, page, sizeof page);
     case READ_PAGE: return CALL(read_page)(&reading, s->page->bytes, sizeof s->page->bytes);
     case SETTINGS_BACK: return CALL(settings_back)(&record, settings, sizeof settings);
@@ -71,6 +78,8 @@ LAP(completion_lap, completion_number(CALL(completion)(&record, w->commands[i]))
 LAP(elapsed_lap, elapsed_number(CALL(elapsed)(&record, w->ms[i])))
 LAP(set_clock_lap, CALL(set_clock)(&record, w->clocks[i]))
 LAP(power_up_lap, CALL(power_up)(&record))
+LAP(active_below_a_lap, below_a_number(CALL(active_below_a)(&record)))
+LAP(static_below_a_lap, below_a_number(CALL(static_below_a)(&record)))
 LAP(page_lap, CALL(page)(&record, page, sizeof page))
 LAP(read_page_lap, CALL(read_page)(&reading, w->pages[i].bytes, sizeof w->pages[i].bytes))
 LAP(settings_back_lap, CALL(settings_back)(&record, settings, sizeof settings))
@@ -80,7 +89,8 @@ static uint64_t run(const struct work *w, size_t laps)
     static uint64_t (*const lap[CALLS])(const struct work *) = {
         [EMPTY_COMPLETION] = empty_completion_lap, [EMPTY_NUMBER] = empty_number_lap, [NEW] = new_lap,
         [CONFIGURE] = configure_lap, [COMPLETION] = completion_lap, [ELAPSED] = elapsed_lap,
-        [SET_CLOCK] = set_clock_lap, [POWER_UP] = power_up_lap, [PAGE] = page_lap,
+        [SET_CLOCK] = set_clock_lap, [POWER_UP] = power_up_lap,
+        [ACTIVE_BELOW_A] = active_below_a_lap, [STATIC_BELOW_A] = static_below_a_lap, [PAGE] = page_lap,
         [READ_PAGE] = read_page_lap, [SETTINGS_BACK] = settings_back_lap
     };
     uint64_t sum = 0;
@@ -97,6 +107,11 @@ static void show(uint8_t *p, uint8_t *s)
 {
     CALL(page)(&record, p, LATENCY_MONITOR_PAGE_LENGTH);
     CALL(settings_back)(&record, s, LATENCY_MONITOR_SETTINGS_LENGTH);
+}
+
+static struct below_a below_a(void)
+{
+    return (struct below_a){CALL(active_below_a)(&record), CALL(static_below_a)(&record)};
 }
 
 /* A record that shows what was read. */
@@ -141,4 +156,4 @@ static uint8_t again(const struct log_page *p, uint8_t *written)
     return refusal;
 }
 
-const struct side SIDE = {sizeof record, once, run, show, again};
+const struct side SIDE = {sizeof record, once, run, show, below_a, again};

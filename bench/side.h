@@ -4,10 +4,11 @@
 
 #include "latency_monitor.h"
 
-/* The nine calls, after two that do nothing: one answers as a completion does, the other a number. */
+/* The eleven calls, after two that do nothing: one answers as a completion does, the other a number. */
 enum call {
     EMPTY_COMPLETION, EMPTY_NUMBER,
-    NEW, CONFIGURE, COMPLETION, ELAPSED, SET_CLOCK, POWER_UP, PAGE, READ_PAGE, SETTINGS_BACK,
+    NEW, CONFIGURE, COMPLETION, ELAPSED, SET_CLOCK, POWER_UP, ACTIVE_BELOW_A, STATIC_BELOW_A, PAGE, READ_PAGE,
+    SETTINGS_BACK,
     CALLS
 };
 
@@ -39,6 +40,9 @@ struct work {
 /* Where an answer has its fields, as a number to be summed; the counter or the refusal is lowest. */
 enum { ENDED_AT = 8, COUNTED_AT = 16, LOADED_AT = 24, LOGGED_AT = 32, LAP_TIME_AT = 40 };
 
+/* And where the counts below threshold A stand; the reads' is lowest. */
+enum { WRITE_AT = 20, DEALLOCATE_AT = 40 };
+
 /* One call, with what it takes. */
 struct stroke {
     enum call call;
@@ -49,12 +53,18 @@ struct stroke {
     const struct log_page *page;
 };
 
+/* The counts below threshold A of both windows. */
+struct below_a {
+    struct latency_monitor_below_a active_window, static_window;
+};
+
 /* An implementation, with a record and a reading of its own. */
 struct side {
     size_t record_size;
     uint64_t (*once)(const struct stroke *stroke);
     uint64_t (*run)(const struct work *work, size_t laps);
     void (*show)(uint8_t *page, uint8_t *settings);
+    struct below_a (*below_a)(void);
     uint8_t (*again)(const struct log_page *page, uint8_t *written); /* reads a page, and writes what was read */
 };
 
