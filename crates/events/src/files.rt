@@ -9,6 +9,7 @@ use crate::records;
 use monitor::Answer;
 use monitor::ElapsedAnswer;
 use monitor::Monitor;
+use monitor::NOT_COUNTED;
 
 // Why a run stopped: at a refused record, with its number from 0 and the refusal, or at the end.
 pub enum Halt {
@@ -43,9 +44,18 @@ pub fn run(m: Monitor, s: &[u8]) -> Stop
         let r = &s[from..from + records::RECORD];
         if records::is_completion(r) {
             let c = records::command(r);
-            let o = monitor.completion(c);
-            monitor = o.next;
-            i += 1;
+            let settings = monitor.settings;
+            // Most completions have no counter, and change the counts below threshold A at most: they are spared the call.
+            if c.counter(settings) == NOT_COUNTED {
+                let active = monitor.active_below_a;
+                let counts = c.below_a(settings, active);
+                monitor.active_below_a = counts;
+                i += 1;
+            } else {
+                let o = monitor.completion(c);
+                monitor = o.next;
+                i += 1;
+            }
         } else if records::is_elapsed(r) {
             let o = records::elapsed(monitor, r);
             monitor = o.next;

@@ -9,9 +9,9 @@ use lib.Dec.{ltb}
 use borrow.Author.Tests.{lt-ltb}
 use Rattle.logpage.specs.declared.Settings.{Settings}
 use Rattle.monitor.specs.declared.commands.Command.{Command}
-use Rattle.monitor.specs.Commands.{counterOf, counterNumber, belowAOf, kindNumber}
+use Rattle.monitor.specs.Commands.{kindOf, counterOf, counterNumber, kindNumber}
 use Rattle.monitor.specs.Counting.{onceMoreAt, countedBelowA}
-use Rattle.monitor.proofs.commands.Laws.{counter-below, below-a-few}
+use Rattle.monitor.proofs.commands.Laws.{counter-below, kind-few}
 
 module _ (s : Settings) (c : Command) (n : ℕ) (number : n ≡ counterNumber (counterOf s c)) where
   pub is-counter : n < 12 → counterOf s c ≡ some n
@@ -30,15 +30,15 @@ module _ (s : Settings) (c : Command) (n : ℕ) (number : n ≡ counterNumber (c
 
 -- the counts below threshold A, by a kind's number
 pub counted-kind :
-    (s : Settings) (c : Command) (counts : List ℕ) (k : ℕ) →
-    k ≡ kindNumber (belowAOf s c) →
-    cond (ltb k 3) (onceMoreAt counts k) counts ≡ countedBelowA (belowAOf s c) counts
-counted-kind s c counts k number = by (belowAOf s c) refl number
+    (c : Command) (counts : List ℕ) (k : ℕ) →
+    k ≡ kindNumber (kindOf c) →
+    cond (ltb k 3) (onceMoreAt counts k) counts ≡ countedBelowA (kindOf c) counts
+counted-kind c counts k number = by (kindOf c) refl number
   where
     by :
         (o : Option ℕ) →
-        belowAOf s c ≡ o →
+        kindOf c ≡ o →
         k ≡ kindNumber o →
         cond (ltb k 3) (onceMoreAt counts k) counts ≡ countedBelowA o counts
     by none is e = rw e
-    by (some j) is e = rw (e, lt-ltb j 3 (below-a-few s c j is))
+    by (some j) is e = rw (e, lt-ltb j 3 (kind-few c j is))

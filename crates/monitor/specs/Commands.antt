@@ -1,6 +1,6 @@
 -- A completion: the counter that it counts for, and its latency in ms.
 use Prim.Native.Nat.{ℕ, zero, suc, _+_, _*_, _/_, min}
-use mathlib.Core.Bool.{Bool, cond}
+use mathlib.Core.Bool.{Bool, cond, not, _&&_}
 use mathlib.Core.List.{List}
 use mathlib.Core.Option.{Option, none, some}
 use lib.Dec.{eqb, leb}
@@ -66,9 +66,12 @@ counterOf s c =
     (cond (reachesA (s .thresholds) c) (counterAt (bucketOf (s .thresholds) c) (kindOf c)) none)
     none
 
--- 02, Ticket 2: the kind of a completion below threshold A; none while the monitor is disabled
+-- 02, Ticket 2: whether a completion is enabled and below threshold A; and the kind of one that is
+unfoldable pub isBelowA : Settings → Command → Bool
+isBelowA s c = s .enabled && not (reachesA (s .thresholds) c)
+
 unfoldable pub belowAOf : Settings → Command → Option ℕ
-belowAOf s c = cond (s .enabled) (cond (reachesA (s .thresholds) c) none (kindOf c)) none
+belowAOf s c = cond (isBelowA s c) (kindOf c) none
 
 -- the kind as a number: three is that of none
 abbrev pub kindNumber : Option ℕ → ℕ

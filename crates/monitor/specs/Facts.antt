@@ -1,5 +1,5 @@
 -- 01, The facts of a history: all of this file. Each fact is asked at a place, of what was done before it.
-use mathlib.Core.Bool.{Bool, false, cond, not, _&&_}
+use mathlib.Core.Bool.{Bool, false, cond, _&&_}
 use mathlib.Core.List.{List, [], _∷_}
 use mathlib.Core.Option.{Option, none, some}
 use Prim.Native.Nat.{ℕ, _+_, _-_, _*_, _/_, min}
@@ -13,7 +13,7 @@ use Rattle.logpage.specs.declared.Window.{Window}
 use Rattle.monitor.specs.declared.commands.Command.{Command}
 use Rattle.monitor.specs.declared.report.WindowChoice.{WindowChoice}
 use Rattle.monitor.specs.declared.report.WindowChoice.the-variants.{Active, Static}
-use Rattle.monitor.specs.Commands.{kindOf, reachesA, counterOf, millisecondsOf}
+use Rattle.monitor.specs.Commands.{kindOf, isBelowA, counterOf, millisecondsOf}
 use Rattle.monitor.specs.Counting.{bit, debugLog}
 use Rattle.monitor.specs.History.{Effect, Past, ClockSetting, settingsIn, completionIn, elapsedIn, clockIn, found}
 use Rattle.monitor.specs.History.{latest, since, onlyIf, andThen}
@@ -145,14 +145,14 @@ countOf xs = min (length xs) 4294967295
 abbrev pub kindIn : WindowChoice → Past → ℕ → Completed → Bool
 kindIn w past k x = isIn w past (x .before) && eqb (x .kind) k
 
-abbrev pub isBelowA : Completed → Bool
-isBelowA x = not (reachesA (inForce (x .before) .thresholds) (x .command))
+abbrev pub isFast : Completed → Bool
+isFast x = isBelowA (inForce (x .before)) (x .command)
 
 unfoldable pub ofKind : WindowChoice → Past → ℕ → List Completed
 ofKind w past k = filter (kindIn w past k) (sinceEnabled past)
 
 unfoldable pub ofKindBelowA : WindowChoice → Past → ℕ → List Completed
-ofKindBelowA w past k = filter (λ x. kindIn w past k x && isBelowA x) (sinceEnabled past)
+ofKindBelowA w past k = filter (λ x. kindIn w past k x && isFast x) (sinceEnabled past)
 
 -- 02, Ticket 2: the counts below threshold A, by kind
 unfoldable pub belowACounts : WindowChoice → Past → List ℕ

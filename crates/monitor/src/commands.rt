@@ -3,7 +3,9 @@ ghost use mathlib.Core.Path.{_≡_};
 ghost use mathlib.Core.Option.{some};
 ghost use Prim.Native.Nat.{_<_};
 ghost use Rattle.monitor.specs.Commands.{kindOf, reaches, bucketOf, counterAt, counterOf, millisecondsOf};
-ghost use Rattle.monitor.specs.Commands.{belowAOf, saysKind, saysBucket, counterNumber, kindNumber};
+ghost use Rattle.monitor.specs.Commands.{isBelowA, belowAOf, saysKind, saysBucket, counterNumber, kindNumber};
+ghost use Rattle.monitor.specs.Counting.{countedBelowA};
+use crate::counting;
 use logpage::Settings;
 
 // What a completion brings.
@@ -126,19 +128,37 @@ impl Command {
         }
     }
 
-    // The number of the kind, of a completion below threshold A; NO_KIND for any other.
-    pub fn below_a(self, s: Settings) -> u16
-        ensures { λ r. ⌜ r ≡ kindNumber (belowAOf s self) ⌝ }
+    // Whether the completion is enabled and below threshold A.
+    pub(crate) fn is_below_a(self, s: Settings) -> bool
+        ensures { λ r. ⌜ r ≡ isBelowA s self ⌝ }
     {
         if s.enabled {
             let thresholds = s.thresholds;
             if reaches(self.latency, thresholds[0]) {
-                NO_KIND
+                false
             } else {
-                kind_number(self.kind())
+                true
             }
         } else {
-            NO_KIND
+            false
+        }
+    }
+
+    // The counts below threshold A, by kind, after a completion that is below it.
+    pub(crate) fn counted_below_a(self, counts: [u32; 3]) -> [u32; 3]
+        ensures { λ r. ⌜ r ≡ countedBelowA (kindOf self) counts ⌝ }
+    {
+        counting::counted_below_a(counts, kind_number(self.kind()))
+    }
+
+    // The counts below threshold A, by kind, after any completion.
+    pub fn below_a(self, s: Settings, counts: [u32; 3]) -> [u32; 3]
+        ensures { λ r. ⌜ r ≡ countedBelowA (belowAOf s self) counts ⌝ }
+    {
+        if self.is_below_a(s) {
+            self.counted_below_a(counts)
+        } else {
+            counts
         }
     }
 }

@@ -54,14 +54,25 @@ pub(crate) fn counted_at(mut counters: [u32; 12], n: u16) -> [u32; 12]
     counters
 }
 
-// The counts below threshold A after one more of a kind; a number of no kind changes none. Written whole, as above.
+// The same where three are written and not twelve: with the top tested first, that takes less.
+fn counted_once(count: u32, here: bool) -> u32
+    ensures { λ r. ⌜ r ≡ cond here (onceMore count) count ⌝ }
+{
+    if count < COUNTER_TOP {
+        count + one_if(here)
+    } else {
+        count
+    }
+}
+
+// The counts below threshold A after one more of a kind; a number of no kind changes none.
 pub(crate) fn counted_below_a(mut counts: [u32; 3], kind: u16) -> [u32; 3]
     ensures { λ r. ⌜ r ≡ cond (ltb kind 3) (onceMoreAt counts kind) counts ⌝ }
 {
     let mut i: u16 = 0;
     while i < 3 {
         let at = i as usize;
-        counts[at] = counted_if(counts[at], i == kind);
+        counts[at] = counted_once(counts[at], i == kind);
         i += 1;
     }
     counts

@@ -28,14 +28,14 @@ pub struct Monitor {
     pub host_set: bool,
     // Time since the timer's last increment, in ms (document 01: partial step).
     pub partial: u32,
+    // For each kind by its number, the enabled completions below threshold A: in the static window, and in the active.
+    pub static_below_a: [u32; 3],
+    pub active_below_a: [u32; 3],
     // In ms.
     pub clock: u64,
     // For each counter, the time in the active window at the last load of its stamp, in ms.
     pub loaded: [u64; 12],
     pub debug: DebugLog,
-    // For each kind by its number, the enabled completions below threshold A in the active and in the static window.
-    pub active_below_a: [u32; 3],
-    pub static_below_a: [u32; 3],
     // Document 01: the last finished window.
     pub static_window: Window,
     // Document 01: the running window.
@@ -71,11 +71,11 @@ impl Monitor {
             timer: 0,
             host_set: false,
             partial: 0,
+            static_below_a: [0; 3],
+            active_below_a: [0; 3],
             clock: 0,
             loaded: [0; 12],
             debug: d,
-            active_below_a: [0; 3],
-            static_below_a: [0; 3],
             static_window: w,
             active_window: w,
         }
@@ -100,9 +100,9 @@ impl Monitor {
                     let w = Window::empty();
                     self.timer = 0;
                     self.partial = 0;
-                    self.loaded = [0; 12];
-                    self.active_below_a = [0; 3];
                     self.static_below_a = [0; 3];
+                    self.active_below_a = [0; 3];
+                    self.loaded = [0; 12];
                     self.static_window = w;
                     self.active_window = w;
                     let answer = Answer::Done;
@@ -139,16 +139,21 @@ impl Monitor {
         }
     }
 
-    // A completed command.
+    // A completed command. The debug log takes nothing from the counter or the stamp, so it comes before them.
     pub fn completion(mut self, c: Command) -> CompletionOutcome
         ensures next { λ r. ⌜ r .next ≡ afterCompletion self c ⌝ }
         ensures answer { λ r. ⌜ saysCompletion (r .answer) ≡ completionAnswer self c ⌝ }
     {
         let counter = c.counter(self.settings);
-        if counter < NOT_COUNTED {
+        if c.is_below_a(self.settings) {
+            let active = self.active_below_a;
+            let counts = c.counted_below_a(active);
+            self.active_below_a = counts;
+            let answer = CompletionAnswer::BelowA;
+            CompletionOutcome { next: self, answer }
+        } else if counter < NOT_COUNTED {
             let n = counter as usize;
             let ms = c.milliseconds();
-            // The debug log takes nothing from the counter or the stamp, so it may come first.
             let debug = counting::triggers(self.settings.trigger, n, self.debug.stamp);
             self.debug = counting::logged(debug, self.debug, n, self.clock, ms, self.host_set);
             let active = self.active_window.counters;
@@ -175,9 +180,6 @@ impl Monitor {
                 CompletionOutcome { next: self, answer }
             }
         } else {
-            let active = self.active_below_a;
-            let below_a = counting::counted_below_a(active, c.below_a(self.settings));
-            self.active_below_a = below_a;
             let answer = CompletionAnswer::NotCounted;
             CompletionOutcome { next: self, answer }
         }
@@ -203,9 +205,9 @@ impl Monitor {
                 let w = self.active_window;
                 let below_a = self.active_below_a;
                 let e = Window::empty();
-                self.loaded = [0; 12];
                 self.static_below_a = below_a;
                 self.active_below_a = [0; 3];
+                self.loaded = [0; 12];
                 self.static_window = w;
                 self.active_window = e;
                 let answer = ElapsedAnswer::Ended;

@@ -1,6 +1,6 @@
 -- Laws of the search for a bucket, and of the counter that it leads to.
-use mathlib.Core.Path.{_≡_, refl}
-use mathlib.Core.Bool.{Bool, true, false, cond}
+use mathlib.Core.Path.{_≡_, refl, sym, _∙_}
+use mathlib.Core.Bool.{Bool, true, false, cond, true≢false}
 use mathlib.Core.List.{List}
 use mathlib.Core.Option.{Option, none, some}
 use Prim.Native.Nat.{ℕ, zero, suc, _+_, _*_, _-_, _<_}
@@ -12,7 +12,7 @@ use lib.ListN.{getD}
 use Rattle.logpage.specs.declared.Settings.{Settings}
 use Rattle.monitor.specs.declared.commands.Command.{Command}
 use Rattle.monitor.specs.Commands.{highestBelow, reaches, reachesA, bucketOf, kindOf, counterAt, counterOf}
-use Rattle.monitor.specs.Commands.{belowAOf}
+use Rattle.monitor.specs.Commands.{isBelowA, belowAOf}
 
 -- one step of the search down
 module _ (thresholds : List ℕ) (us : ℕ) where
@@ -90,10 +90,8 @@ counter-below s c n e =
     inside (rw e at (either (s .enabled) (either (reachesA (s .thresholds) c) at-a-bucket absent) absent))
 
 -- there are three kinds
-pub below-a-few : (s : Settings) (c : Command) (k : ℕ) → belowAOf s c ≡ some k → k < 3
-unfolding belowAOf
-below-a-few s c k e =
-    inside (rw e at (either (s .enabled) (either (reachesA (s .thresholds) c) absent (kind-below c)) absent))
+pub kind-few : (c : Command) (k : ℕ) → kindOf c ≡ some k → k < 3
+kind-few c k e = inside (rw e at (kind-below c))
 
 -- a disabled monitor counts nothing
 pub counter-enabled : (s : Settings) (c : Command) (n : ℕ) → counterOf s c ≡ some n → s .enabled ≡ true
@@ -137,7 +135,7 @@ pub data Sorted (s : Settings) (c : Command) : Type 0 where
       b < 4 →
       s .enabled ≡ true →
       kindOf c ≡ some k →
-      reachesA (s .thresholds) c ≡ true →
+      isBelowA s c ≡ false →
       counterOf s c ≡ some (3 * b + k) →
       Sorted s c
   fast :
@@ -145,7 +143,7 @@ pub data Sorted (s : Settings) (c : Command) : Type 0 where
       k < 3 →
       s .enabled ≡ true →
       kindOf c ≡ some k →
-      reachesA (s .thresholds) c ≡ false →
+      isBelowA s c ≡ true →
       counterOf s c ≡ none →
       belowAOf s c ≡ some k →
       Sorted s c
@@ -157,7 +155,7 @@ at-no-kind none = refl
 at-no-kind (some b) = refl
 
 pub sorted : (s : Settings) (c : Command) → Sorted s c
-unfolding counterOf belowAOf bucketOf
+unfolding isBelowA counterOf belowAOf bucketOf
 sorted s c = by (s .enabled) refl (reachesA (s .thresholds) c) refl (kindOf c) refl
   where
     by :
@@ -172,8 +170,22 @@ sorted s c = by (s .enabled) refl (reachesA (s .thresholds) c) refl (kindOf c) r
     by true on false a none k = kindless k (rw (on, a)) (rw (on, a) k)
     by true on true a none k = kindless k (rw (on, a, k) (at-no-kind (highestBelow (s .thresholds) (c .latency) 4))) (rw (on, a))
     by true on false a (some kind) k =
-        fast kind (inside (rw k at (kind-below c))) on k a (rw (on, a)) (rw (on, a) k)
+        fast kind (kind-few c kind k) on k (rw (on, a)) (rw (on, a)) (rw (on, a) k)
     by true on true a (some kind) k = bucketed (highestBelow (s .thresholds) (c .latency) 4) refl (has-bucket (s .thresholds) (c .latency) a 3)
       where
         bucketed : (o : Option ℕ) → highestBelow (s .thresholds) (c .latency) 4 ≡ o → Found 4 o → Sorted s c
-        bucketed o e (found-at b few) = slow kind b (inside (rw k at (kind-below c))) few on k a (rw (on, a, e, k))
+        bucketed o e (found-at b few) = slow kind b (kind-few c kind k) few on k (rw (on, a)) (rw (on, a, e, k))
+
+-- a completion below threshold A has no counter
+pub fast-uncounted : (s : Settings) (c : Command) → isBelowA s c ≡ true → counterOf s c ≡ none
+fast-uncounted s c below = by (sorted s c)
+  where
+    by : Sorted s c → counterOf s c ≡ none
+    by (slow k b few low on kind reached e) = absurd (true≢false (sym below ∙ reached))
+    by (fast k few on kind is e e') = e
+    by (kindless kind e e') = e
+    by (disabled off e e') = e
+
+pub below-a-kind : (s : Settings) (c : Command) (below : Bool) → isBelowA s c ≡ below → belowAOf s c ≡ cond below (kindOf c) none
+unfolding belowAOf
+below-a-kind s c below e = rw e

@@ -2,7 +2,7 @@
 use mathlib.Core.Path.{_≡_, refl, _∙_}
 use mathlib.Core.Bool.{Bool, true, false, cond, _&&_}
 use mathlib.Core.List.{List}
-use Prim.Native.Nat.{ℕ, _+_, _<_}
+use Prim.Native.Nat.{ℕ, _+_, _≤_, _<_}
 use native.Mathlib.Omega.{arith}
 use borrow.Author.Tests.{lt-ltb, le-ltb, eqb-true, eqb-false, ltb-true, ltb-false}
 use lib.Dec.{eqb, ltb}
@@ -21,6 +21,21 @@ counts counter true h = by (ltb counter 4294967295) refl
     by : (t : Bool) → ltb counter 4294967295 ≡ t → counter + cond t 1 0 ≡ onceMore counter
     by true e = omega (arith, ltb-true counter 4294967295 e)
     by false e = omega (arith, ltb-false counter 4294967295 e)
+
+pub counts-below-top :
+    (counter : ℕ) (here : Bool) →
+    counter < 4294967295 →
+    counter + cond here 1 0 ≡ cond here (onceMore counter) counter
+counts-below-top counter true h = omega arith
+counts-below-top counter false h = omega arith
+
+pub counts-at-top :
+    (counter : ℕ) (here : Bool) →
+    counter < 4294967296 →
+    4294967295 ≤ counter →
+    counter ≡ cond here (onceMore counter) counter
+counts-at-top counter true h top = omega arith
+counts-at-top counter false h top = refl
 
 pub counted-fits :
     (counter : ℕ) (here : Bool) →

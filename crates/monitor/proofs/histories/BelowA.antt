@@ -12,11 +12,11 @@ use borrow.Author.Tests.{eq-eqb, ne-eqb, eqb-true, eqb-false}
 use Rattle.logpage.specs.Fields.{from}
 use Rattle.monitor.specs.declared.report.WindowChoice.{WindowChoice}
 use Rattle.monitor.specs.declared.report.WindowChoice.the-variants.{Active, Static}
-use Rattle.monitor.specs.Commands.{kindOf, reachesA, counterOf}
+use Rattle.monitor.specs.Commands.{kindOf, counterOf}
 use Rattle.monitor.specs.Claims.{recordOf, windowIn, BelowAShowsFacts, fiveCounts, FiveCountsAddUp}
 use Rattle.monitor.specs.Facts.{inForce, enablingIn, sum, Completed, completedAt, sinceEnabled, Counted, counted}
 use Rattle.monitor.specs.Facts.{countedSince, filter, filterMap, isIn, activeFor, staticFor, active, static, countOf}
-use Rattle.monitor.specs.Facts.{kindIn, isBelowA, ofKind, ofKindBelowA, belowACounts}
+use Rattle.monitor.specs.Facts.{kindIn, isFast, ofKind, ofKindBelowA, belowACounts}
 use Rattle.monitor.specs.History.{Effect, completionIn, History, Past, Every, pastOf, play, found, onlyIf, andThen}
 use Rattle.monitor.specs.Report.{countsBelowA}
 use Rattle.monitor.specs.declared.commands.Command.{Command}
@@ -38,10 +38,10 @@ data Place (x : Completed) : Type 0 where
   in-bucket :
       (b : ℕ) →
       b < 4 →
-      isBelowA x ≡ false →
+      isFast x ≡ false →
       counted x ≡ some (record { counter = 3 * b + x .kind; command = x .command; before = x .before }) →
       Place x
-  below-a : isBelowA x ≡ true → counted x ≡ none → Place x
+  below-a : isFast x ≡ true → counted x ≡ none → Place x
 
 abbrev Placed : Completed → Type 0
 Placed x = (x .kind < 3) × Place x
@@ -61,8 +61,8 @@ placed e past = by (completionIn e)
         (c : Command) →
         Sorted (inForce past) c →
         Some Placed (found none (here past (inForce past .enabled) c) (kindOf c))
-    as-sorted c (slow k b few low on kind reached e) = rw (kind, on) (few, in-bucket b low (rw reached) (rw e))
-    as-sorted c (fast k few on kind below e e') = rw (kind, on) (few, below-a (rw below) (rw e))
+    as-sorted c (slow k b few low on kind reached e) = rw (kind, on) (few, in-bucket b low reached (rw e))
+    as-sorted c (fast k few on kind below e e') = rw (kind, on) (few, below-a below (rw e))
     as-sorted c (kindless kind e e') = rw kind tt
     as-sorted c (disabled off e e') = rw off (none-here c (kindOf c))
 
@@ -131,7 +131,7 @@ module _ (t : Past → Bool) (k : ℕ) (few : k < 3) where
   of-kind x = t (x .before) && eqb (x .kind) k
 
   abbrev fast-of-kind : Completed → Bool
-  fast-of-kind x = of-kind x && isBelowA x
+  fast-of-kind x = of-kind x && isFast x
 
   abbrev of-bucket : ℕ → Counted → Bool
   of-bucket b y = t (y .before) && eqb (y .counter) (3 * b + k)
@@ -145,7 +145,7 @@ module _ (t : Past → Bool) (k : ℕ) (few : k < 3) where
 
   -- one completion more
   module _ (x : Completed) (xs : List Completed) (ys : List Counted) (rest : AddUp xs ys) where
-    add-fast : isBelowA x ≡ true → AddUp (x ∷ xs) ys
+    add-fast : isFast x ≡ true → AddUp (x ∷ xs) ys
     add-fast below =
         let same : one (fast-of-kind x) ≡ one (of-kind x) = rw (below, and-true (of-kind x)) in
         omega (arith, one-more fast-of-kind x xs, one-more of-kind x xs)
@@ -154,7 +154,7 @@ module _ (t : Past → Bool) (k : ℕ) (few : k < 3) where
         x .kind < 3 →
         (b : ℕ) →
         b < 4 →
-        isBelowA x ≡ false →
+        isFast x ≡ false →
         AddUp (x ∷ xs) (record { counter = 3 * b + x .kind; command = x .command; before = x .before } ∷ ys)
     add-slow low b there reached =
         let y : Counted = record { counter = 3 * b + x .kind; command = x .command; before = x .before } in

@@ -1,7 +1,7 @@
 -- A completion makes of the record that the facts describe the one that they describe after it.
 use Prim.Native.Nat.{ℕ, _+_, _-_, _*_, _%_, _<_}
 use mathlib.Core.Path.{_≡_, refl, sym, ap, _∙_}
-use mathlib.Core.Bool.{Bool, true, false, cond, not, _&&_}
+use mathlib.Core.Bool.{Bool, true, false, cond, _&&_}
 use mathlib.Core.List.{List, _∷_}
 use mathlib.Core.Option.{Option, none, some}
 use native.Mathlib.Nat.{zero-add}
@@ -13,7 +13,7 @@ use Rattle.logpage.specs.Fields.{unset, noDebugLog, from, each}
 use Rattle.monitor.specs.declared.commands.Command.{Command}
 use Rattle.monitor.specs.declared.record.Monitor.{Monitor}
 use Rattle.monitor.specs.declared.report.WindowChoice.the-variants.{Active, Static}
-use Rattle.monitor.specs.Commands.{kindOf, reachesA, counterOf, belowAOf, millisecondsOf}
+use Rattle.monitor.specs.Commands.{kindOf, isBelowA, counterOf, belowAOf, millisecondsOf}
 use Rattle.monitor.specs.Counting.{bit, onceMoreAt, countedBelowA, loads, triggers, debugLog}
 use Rattle.monitor.specs.Claims.{loadedOf, recordOf}
 use Rattle.monitor.specs.Facts.{inForce, clockAt, hostSetAt, timerThreshold, enabledTime, windowAt, timerAt}
@@ -25,7 +25,7 @@ use Rattle.monitor.specs.History.{completed, Past, found, onlyIf, andThe
 use Rattle.monitor.specs.Record.{afterCompletion}
 use Rattle.monitor.specs.Timer.{inWindow}
 use Rattle.monitor.proofs.commands.Laws.{Sorted, slow, fast, kindless, disabled, sorted}
-use Rattle.monitor.proofs.record.Laws.{decide, not-counted}
+use Rattle.monitor.proofs.record.Laws.{decide, uncounted}
 use Rattle.monitor.proofs.histories.Facts.{Good, fine-counted, Here, here, span, into, clock-top, last-load-all}
 use Rattle.monitor.proofs.histories.Facts.{described, fast-within, fast-preceding}
 use Rattle.monitor.proofs.histories.Lists.{All, Some, all-those, from-at, from-same, from-stored, counts-stored}
@@ -184,12 +184,12 @@ module _ (past : Past) (c : Command) (kind : ℕ) where
   unfolding belowACounts
   static-kept = λ i. from 0 3 (λ k. countOf (finished-before k i))
 
-  module _ (reached : Bool) (e : reachesA (inForce past .thresholds) c ≡ reached) where
+  module _ (below : Bool) (e : isBelowA (inForce past) c ≡ below) where
     -- the test of this one
     here-passes :
         (k : ℕ) (b : Bool) →
         eqb kind k ≡ b →
-        fast-within (windowAt past) k here-completed ≡ (b && not reached)
+        fast-within (windowAt past) k here-completed ≡ (b && below)
     here-passes k b q = rw (eq-eqb (windowAt past) (windowAt past) refl, q, e)
 
     other-kind : (k : ℕ) → (k ≡ kind → ⊥) → ofKindBelowA Active past k ≡ fast-joined k
@@ -197,7 +197,7 @@ module _ (past : Past) (c : Command) (kind : ℕ) where
     other-kind k other = rw (here-passes k false (ne-eqb kind k (λ q. other (sym q))))
 
   slow-kept :
-      reachesA (inForce past .thresholds) c ≡ true →
+      isBelowA (inForce past) c ≡ false →
       belowACounts Active past ≡ from 0 3 (λ k. countOf (fast-joined k))
   unfolding belowACounts ofKindBelowA filter
   slow-kept reached = λ i. from 0 3 (λ k. countOf (by k (eqb kind k) refl i))
@@ -207,19 +207,19 @@ module _ (past : Past) (c : Command) (kind : ℕ) where
       none-pass false = refl
 
       by : (k : ℕ) (b : Bool) → eqb kind k ≡ b → ofKindBelowA Active past k ≡ fast-joined k
-      by k b q = rw (here-passes true reached k b q, none-pass b)
+      by k b q = rw (here-passes false reached k b q, none-pass b)
 
   fast-more :
       kind < 3 →
-      reachesA (inForce past .thresholds) c ≡ false →
+      isBelowA (inForce past) c ≡ true →
       onceMoreAt (belowACounts Active past) kind ≡ from 0 3 (λ k. countOf (fast-joined k))
   unfolding belowACounts ofKindBelowA filter
   fast-more few below =
       counts-stored 3 (ofKindBelowA Active past) fast-joined kind here-completed few this
-      (other-kind false below)
+      (other-kind true below)
     where
       this : fast-joined kind ≡ here-completed ∷ ofKindBelowA Active past kind
-      this = rw (here-passes false below kind true (eq-eqb kind kind refl))
+      this = rw (here-passes true below kind true (eq-eqb kind kind refl))
 
 -- the facts after a completion, by what it is if it is enabled and of a kind
 abbrev after-it : Past → Option Completed → Monitor
@@ -243,18 +243,18 @@ uncounted-step :
     afterCompletion (recordOf past) c ≡ after-it past none
 unfolding recordOf active static belowACounts ofKindBelowA debugAt
 uncounted-step past c e none-below =
-    sym (not-counted (recordOf past) c (belowACounts Active past) e (rw none-below) .0)
+    sym (uncounted (recordOf past) c (belowACounts Active past) e (rw none-below) .0)
 
 fast-step :
     (past : Past) (c : Command) (k : ℕ) →
     k < 3 →
-    reachesA (inForce past .thresholds) c ≡ false →
+    isBelowA (inForce past) c ≡ true →
     counterOf (inForce past) c ≡ none →
     belowAOf (inForce past) c ≡ some k →
     afterCompletion (recordOf past) c ≡ after-it past (some (here-completed past c k))
 unfolding recordOf active static debugAt filterMap
 fast-step past c k few below e kind =
-    rw e (sym (not-counted (recordOf past) c (onceMoreAt (belowACounts Active past) k) e (rw kind) .0) ∙
+    rw e (sym (uncounted (recordOf past) c (onceMoreAt (belowACounts Active past) k) e (rw kind) .0) ∙
     (λ i. record {
       settings = inForce past;
       timer = timerAt past;
@@ -275,7 +275,7 @@ slow-step :
     (c : Command) (k n : ℕ) →
     n < 12 →
     inForce past .enabled ≡ true →
-    reachesA (inForce past .thresholds) c ≡ true →
+    isBelowA (inForce past) c ≡ false →
     counterOf (inForce past) c ≡ some n →
     afterCompletion (recordOf past) c ≡ after-it past (some (here-completed past c k))
 unfolding recordOf filterMap

@@ -17,7 +17,7 @@ use Rattle.monitor.specs.Claims.{loadedOf}
 use Rattle.monitor.specs.Facts.{inForce, sum, time, clockAt, timerThreshold, enabledTime, windowAt}
 use Rattle.monitor.specs.Facts.{Completed, sinceEnabled, Counted, counted, filter, filterMap}
 use Rattle.monitor.specs.Facts.{countedSince, activeFor, countOf, orLoad, loadsAfter, lastLoad, windowFrom}
-use Rattle.monitor.specs.Facts.{isBelowA}
+use Rattle.monitor.specs.Facts.{isFast}
 use Rattle.monitor.specs.History.{Effect, configured, completed, passed, clockSet, poweredUp, nothing, Past}
 use Rattle.monitor.specs.History.{unlessFound, onlyIf}
 use Rattle.monitor.specs.History.{found, latest, since, andThen}
@@ -200,10 +200,10 @@ preceding w k x = eqb (windowAt (x .before) + 1) w && eqb (x .counter) k
 
 -- those of a kind below threshold A in window w, and in the one before w
 abbrev pub fast-within : ℕ → ℕ → Completed → Bool
-fast-within w k x = (eqb (windowAt (x .before)) w && eqb (x .kind) k) && isBelowA x
+fast-within w k x = (eqb (windowAt (x .before)) w && eqb (x .kind) k) && isFast x
 
 abbrev pub fast-preceding : ℕ → ℕ → Completed → Bool
-fast-preceding w k x = (eqb (windowAt (x .before) + 1) w && eqb (x .kind) k) && isBelowA x
+fast-preceding w k x = (eqb (windowAt (x .before) + 1) w && eqb (x .kind) k) && isFast x
 
 -- the record that facts describe, w the number of the active window, xs the completions since the monitor was enabled
 abbrev pub described :

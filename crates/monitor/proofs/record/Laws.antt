@@ -1,6 +1,6 @@
 -- What the calls' branches come to, as laws over plain values.
 use mathlib.Core.Path.{_≡_}
-use mathlib.Core.Bool.{Bool, cond}
+use mathlib.Core.Bool.{Bool, true, false, cond}
 use mathlib.Core.List.{List}
 use mathlib.Core.Option.{some, none}
 use Prim.Native.Nat.{ℕ, _-_, _≤_}
@@ -17,8 +17,9 @@ use Rattle.monitor.specs.Answers.{done, refused, notCounted, counted, en
 use Rattle.monitor.specs.Refusals.{settingsRefusal, elapsedRefusal}
 use Rattle.monitor.specs.Settings.{discard, decoded}
 use Rattle.monitor.specs.Counting.{bit, onceMoreAt, loads, countedIn, countedBelowA, triggers, debugLog}
-use Rattle.monitor.specs.Commands.{counterOf, belowAOf, millisecondsOf}
+use Rattle.monitor.specs.Commands.{kindOf, counterOf, isBelowA, belowAOf, millisecondsOf}
 use Rattle.monitor.specs.Timer.{grown, ticked, inWindow}
+use Rattle.monitor.proofs.commands.Laws.{fast-uncounted, below-a-kind}
 use Rattle.monitor.proofs.settings.Laws.{refused-by}
 use Rattle.monitor.specs.Record.{noLoads, noneBelowA, afterSettings, settingsAnswer, afterCompletion, completionAnswer}
 use Rattle.monitor.specs.Record.{afterElapsed, elapsedAnswer, loadsAt}
@@ -59,7 +60,7 @@ unfolding afterSettings settingsAnswer
 settings-accepted m s next debug on accepted read keeps enables =
     (rw (accepted, ← read, ← enables, keeps), rw accepted)
 
--- a completion that is not counted, by the counts below threshold A that it leaves
+-- a completion without a counter, by the counts below threshold A that it leaves
 abbrev pub withBelowA : Monitor → List ℕ → Monitor
 withBelowA m counts =
     record {
@@ -76,13 +77,29 @@ withBelowA m counts =
       «active_window» = m .«active_window»;
     }
 
-pub not-counted :
+pub uncounted :
     (m : Monitor) (c : Command) (counts : List ℕ) →
     counterOf (m .settings) c ≡ none →
     counts ≡ countedBelowA (belowAOf (m .settings) c) (m .«active_below_a») →
     (withBelowA m counts ≡ afterCompletion m c) × (notCounted ≡ completionAnswer m c)
 unfolding afterCompletion completionAnswer
-not-counted m c counts e more = (rw (e, more), rw e)
+uncounted m c counts e more = (rw (e, more), rw e)
+
+-- one that is below threshold A, and one that is not
+pub below-a :
+    (m : Monitor) (c : Command) (counts : List ℕ) →
+    isBelowA (m .settings) c ≡ true →
+    counts ≡ countedBelowA (kindOf c) (m .«active_below_a») →
+    (withBelowA m counts ≡ afterCompletion m c) × (notCounted ≡ completionAnswer m c)
+below-a m c counts below more =
+    uncounted m c counts (fast-uncounted (m .settings) c below) (rw (below-a-kind (m .settings) c true below) more)
+
+pub not-counted :
+    (m : Monitor) (c : Command) →
+    counterOf (m .settings) c ≡ none →
+    isBelowA (m .settings) c ≡ false →
+    (m ≡ afterCompletion m c) × (notCounted ≡ completionAnswer m c)
+not-counted m c e reached = uncounted m c _ e (rw (below-a-kind (m .settings) c false reached))
 
 -- what a counted completion writes, by whether it loads the stamp
 abbrev pub recorded : Monitor → (n ms : ℕ) (log : DebugLog) (counters : List ℕ) (load : Bool) → Monitor

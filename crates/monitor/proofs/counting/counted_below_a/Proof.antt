@@ -20,14 +20,14 @@ loop-holds c = (search needs, none-written onceMore (c .args .t1) (c .args .kind
 cast-at : tie.Need-cast-at Inv-loop μ-loop
 cast-at c = search needs
 
-mul-counted-if : tie.Need-mul-counted-if Inv-loop μ-loop
-mul-counted-if c = search needs
+mul-counted-once : tie.Need-mul-counted-once Inv-loop μ-loop
+mul-counted-once c = search needs
 
-array-read-counted-if : tie.Need-array-read-counted-if Inv-loop μ-loop
-array-read-counted-if c = search needs
+array-read-counted-once : tie.Need-array-read-counted-once Inv-loop μ-loop
+array-read-counted-once c = search needs
 
-counted-if-requires : tie.Need-counted-if-requires Inv-loop μ-loop
-counted-if-requires c κs = search needs
+counted-once-requires : tie.Need-counted-once-requires Inv-loop μ-loop
+counted-once-requires c κs = search needs
 
 mul-counts : tie.Need-mul-counts Inv-loop μ-loop
 mul-counts c = search needs
@@ -45,7 +45,7 @@ loop-again : tie.Need-loop-again Inv-loop μ-loop
 loop-again c =
     let a = c .before .before .before .args in (
       search needs,
-      rw (c .counted-if .ensures) (write-more onceMore (a .t1) (a .kind) _ _ (c .before .before .loop .inv .1)),
+      rw (c .counted-once .ensures) (write-more onceMore (a .t1) (a .kind) _ _ (c .before .before .loop .inv .1)),
     )
 
 returns : tie.Need-returns Inv-loop μ-loop
@@ -61,9 +61,9 @@ counted-below-a-spec =
     μ-loop
     loop-holds
     cast-at
-    mul-counted-if
-    array-read-counted-if
-    counted-if-requires
+    mul-counted-once
+    array-read-counted-once
+    counted-once-requires
     mul-counts
     array-write-counts
     add-i

@@ -1,14 +1,20 @@
--- `Monitor::completion`: counted with the stamp loaded; counted with it kept; not counted.
+-- `Monitor::completion`: below threshold A; counted with the stamp loaded; counted with it kept; not counted.
 use mathlib.Core.Path.{_≡_, sym, _∙_}
 use mathlib.Core.Bool.{Bool, true, false}
-use Rattle.monitor.proofs.Counters.{is-counter, no-counter, counted-kind}
-use Rattle.monitor.proofs.record.Laws.{not-counted, Decided, decide}
+use Rattle.monitor.proofs.Counters.{is-counter, no-counter}
+use Rattle.monitor.proofs.record.Laws.{below-a, not-counted, Decided, decide}
 use borrow.Author.Needs.{needs}
 use Rattle.monitor.proofs.record.Monitor.completion.Statement.{statement}
 use Rattle.monitor.proofs.record.Monitor.completion.Tie as tie
 
 counter-requires : tie.Need-counter-requires
 counter-requires c κs = search needs
+
+is-below-a-requires : tie.Need-is-below-a-requires
+is-below-a-requires c κs = search needs
+
+counted-below-a-requires : tie.Need-counted-below-a-requires
+counted-below-a-requires c κs = search needs
 
 cast-n : tie.Need-cast-n
 cast-n c = search needs
@@ -58,12 +64,6 @@ of-requires c κs = search needs
 of-requires-2 : tie.Need-of-requires-2
 of-requires-2 c κs = search needs
 
-below-a-requires : tie.Need-below-a-requires
-below-a-requires c κs = search needs
-
-counted-below-a-requires : tie.Need-counted-below-a-requires
-counted-below-a-requires c κs = search needs
-
 -- the places on the way to the decision, the latest first
 abbrev at-counted : tie.After-loads → tie.After-counted-at
 at-counted c = c .before
@@ -75,7 +75,7 @@ abbrev at-milliseconds : tie.After-loads → tie.After-milliseconds
 at-milliseconds c = at-triggers c .before
 
 abbrev at-counter : tie.After-loads → tie.After-counter
-at-counter c = at-milliseconds c .before .before
+at-counter c = at-milliseconds c .before .before .before .before
 
 -- every value on the way is what its definition says
 decided :
@@ -88,7 +88,7 @@ decided :
     (at-triggers c .triggers .result)
     load
 decided c load e =
-    decide _ _ _ _ _ _ _ _ (is-counter _ _ _ (at-counter c .counter .ensures) (at-milliseconds c .before .if1 .taken))
+    decide _ _ _ _ _ _ _ _ (is-counter _ _ _ (at-counter c .counter .ensures) (at-milliseconds c .before .if2 .taken))
     (at-milliseconds c .milliseconds .ensures)
     (at-triggers c .triggers .ensures)
     (at-counted c .before .before .logged .ensures)
@@ -97,27 +97,34 @@ decided c load e =
 
 returns : tie.Need-returns
 returns c =
-    let then = c .before .before .before .before .before .before in
-    let d = decided (then .before) true (then .if2 .taken) in
-    (rw (c .of .ensures, c .before .in-window .ensures) (d .next), d .answer)
+    let test = c .before .before .before in
+    below-a _ _ _ (sym (test .is-below-a .ensures) ∙ c .before .before .if1 .taken) (c .counted-below-a .ensures)
 
 returns-2 : tie.Need-returns-2
 returns-2 c =
-    let else = c .before .before .before .before in
-    let d = decided (else .before) false (else .if2 .left) in
-    (rw (c .of2 .ensures) (d .next), d .answer)
+    let then = c .before .before .before .before .before .before in
+    let d = decided (then .before) true (then .if3 .taken) in
+    (rw (c .of .ensures, c .before .in-window .ensures) (d .next), d .answer)
 
 returns-3 : tie.Need-returns-3
 returns-3 c =
-    let else = c .before .before .before in
-    not-counted _ _ _ (no-counter _ _ _ (else .before .counter .ensures) (else .if1 .left))
-    (c .counted-below-a .ensures ∙ counted-kind _ _ _ _ (c .before .below-a .ensures))
+    let else = c .before .before .before .before in
+    let d = decided (else .before) false (else .if3 .left) in
+    (rw (c .of2 .ensures) (d .next), d .answer)
+
+returns-4 : tie.Need-returns-4
+returns-4 c =
+    let test = c .before .before in
+    not-counted _ _ (no-counter _ _ _ (test .before .counter .ensures) (c .if2 .left))
+    (sym (test .is-below-a .ensures) ∙ c .before .if1 .left)
 
 pub completion-spec : {M : Type 1} → statement M
 completion-spec =
     tie.close
     (tie.spec
     counter-requires
+    is-below-a-requires
+    counted-below-a-requires
     cast-n
     milliseconds-requires
     triggers-requires
@@ -134,8 +141,7 @@ completion-spec =
     array-write-loaded
     of-requires
     of-requires-2
-    below-a-requires
-    counted-below-a-requires
     returns
     returns-2
-    returns-3)
+    returns-3
+    returns-4)
