@@ -1,4 +1,5 @@
--- What a counter's number says, and a kind's: below twelve, or three, the counter or kind, else that there is none.
+-- What a counter's number says, and a kind's: below twelve, or three, the counter or kind, else that there is none. And
+-- what a completion without a counter leaves.
 use mathlib.Core.Path.{_≡_, refl}
 use mathlib.Core.Bool.{cond}
 use mathlib.Core.List.{List}
@@ -9,8 +10,11 @@ use lib.Dec.{ltb}
 use borrow.Author.Tests.{lt-ltb}
 use Rattle.logpage.specs.declared.Settings.{Settings}
 use Rattle.monitor.specs.declared.commands.Command.{Command}
-use Rattle.monitor.specs.Commands.{kindOf, counterOf, counterNumber, kindNumber}
+use Rattle.monitor.specs.declared.record.Monitor.{Monitor}
+use Rattle.monitor.specs.Answers.{notCounted}
+use Rattle.monitor.specs.Commands.{kindOf, counterOf, belowAOf, counterNumber, kindNumber}
 use Rattle.monitor.specs.Counting.{onceMoreAt, countedBelowA}
+use Rattle.monitor.specs.Record.{afterCompletion, completionAnswer}
 use Rattle.monitor.proofs.commands.Laws.{counter-below, kind-few}
 
 module _ (s : Settings) (c : Command) (n : ℕ) (number : n ≡ counterNumber (counterOf s c)) where
@@ -42,3 +46,28 @@ counted-kind c counts k number = by (kindOf c) refl number
         cond (ltb k 3) (onceMoreAt counts k) counts ≡ countedBelowA o counts
     by none is e = rw e
     by (some j) is e = rw (e, lt-ltb j 3 (kind-few c j is))
+
+-- a completion without a counter, by the counts below threshold A that it leaves
+abbrev pub withBelowA : Monitor → List ℕ → Monitor
+withBelowA m counts =
+    record {
+      settings = m .settings;
+      timer = m .timer;
+      «host_set» = m .«host_set»;
+      partial = m .partial;
+      clock = m .clock;
+      loaded = m .loaded;
+      debug = m .debug;
+      «active_below_a» = counts;
+      «static_below_a» = m .«static_below_a»;
+      «static_window» = m .«static_window»;
+      «active_window» = m .«active_window»;
+    }
+
+pub uncounted :
+    (m : Monitor) (c : Command) (counts : List ℕ) →
+    counterOf (m .settings) c ≡ none →
+    counts ≡ countedBelowA (belowAOf (m .settings) c) (m .«active_below_a») →
+    (withBelowA m counts ≡ afterCompletion m c) × (notCounted ≡ completionAnswer m c)
+unfolding afterCompletion completionAnswer
+uncounted m c counts e more = (rw (e, more), rw e)

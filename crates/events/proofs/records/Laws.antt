@@ -18,6 +18,7 @@ use types.Run.{OneOf}
 use Rattle.endian.specs.Bytes.{anySet}
 use Rattle.endian.specs.Loads.{number}
 use Rattle.endian.proofs.Numbers.{below, both-clear, first-set}
+use Rattle.monitor.proofs.Counters.{no-counter, withBelowA, uncounted}
 use Rattle.monitor.proofs.answers.ElapsedAnswer.{the-type}
 use Rattle.monitor.specs.declared.answers.ElapsedAnswer.{ElapsedAnswer}
 use Rattle.monitor.specs.declared.answers.ElapsedAnswer.the-variants as time
@@ -25,7 +26,8 @@ use Rattle.monitor.specs.declared.commands.Command.{Command}
 use Rattle.monitor.specs.declared.record.Monitor.{Monitor}
 use Rattle.monitor.specs.Answers.{CallAnswer, refused, done, notCounted, counted, ended, unlessRefused, saysElapsed}
 use Rattle.monitor.specs.Answers as answers
-use Rattle.monitor.specs.Commands.{counterOf}
+use Rattle.monitor.specs.Commands.{counterNumber, counterOf, belowAOf}
+use Rattle.monitor.specs.Counting.{countedBelowA}
 use Rattle.monitor.specs.History as calls
 use Rattle.monitor.specs.History.{Call, settings, completion, elapsed, clock, powerUp, page, settingsBack}
 use Rattle.monitor.specs.History.{after, answerOf, playFrom, refusalOf, found}
@@ -223,6 +225,18 @@ module _ (r : List ℕ) (sixteen : length r ≡ 16) where
 pub completion-accepted : (r : List ℕ) (c : Command) → callOf r ≡ some (completion c) → recordRefusal r ≡ none
 unfolding recordRefusal
 completion-accepted r c e = rw e
+
+-- a completion without a counter changes the counts below threshold A at most
+pub spared :
+    (m : Monitor) (r : List ℕ) (c : Command) (n : ℕ) (counts : List ℕ) →
+    callOf r ≡ some (completion c) →
+    n ≡ counterNumber (counterOf (m .settings) c) →
+    n ≡ 12 →
+    counts ≡ countedBelowA (belowAOf (m .settings) c) (m .«active_below_a») →
+    withBelowA m counts ≡ afterRecord m r
+unfolding afterRecord playFrom
+spared m r c n counts e number twelve more =
+    rw e (uncounted m c counts (no-counter (m .settings) c n number (omega arith)) more .0)
 
 -- the refusal that an answer names
 abbrev pub refusalIn : CallAnswer → Option ℕ

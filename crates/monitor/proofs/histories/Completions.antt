@@ -25,7 +25,8 @@ use Rattle.monitor.specs.History.{completed, Past, found, onlyIf, andThe
 use Rattle.monitor.specs.Record.{afterCompletion}
 use Rattle.monitor.specs.Timer.{inWindow}
 use Rattle.monitor.proofs.commands.Laws.{Sorted, slow, fast, kindless, disabled, sorted}
-use Rattle.monitor.proofs.record.Laws.{decide, uncounted}
+use Rattle.monitor.proofs.Counters.{uncounted}
+use Rattle.monitor.proofs.record.Laws.{decide}
 use Rattle.monitor.proofs.histories.Facts.{Good, fine-counted, Here, here, span, into, clock-top, last-load-all}
 use Rattle.monitor.proofs.histories.Facts.{described, fast-within, fast-preceding}
 use Rattle.monitor.proofs.histories.Lists.{All, Some, all-those, from-at, from-same, from-stored, counts-stored}

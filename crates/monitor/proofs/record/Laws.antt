@@ -17,8 +17,9 @@ use Rattle.monitor.specs.Answers.{done, refused, notCounted, counted, en
 use Rattle.monitor.specs.Refusals.{settingsRefusal, elapsedRefusal}
 use Rattle.monitor.specs.Settings.{discard, decoded}
 use Rattle.monitor.specs.Counting.{bit, onceMoreAt, loads, countedIn, countedBelowA, triggers, debugLog}
-use Rattle.monitor.specs.Commands.{kindOf, counterOf, isBelowA, belowAOf, millisecondsOf}
+use Rattle.monitor.specs.Commands.{kindOf, counterOf, isBelowA, millisecondsOf}
 use Rattle.monitor.specs.Timer.{grown, ticked, inWindow}
+use Rattle.monitor.proofs.Counters.{withBelowA, uncounted}
 use Rattle.monitor.proofs.commands.Laws.{fast-uncounted, below-a-kind}
 use Rattle.monitor.proofs.settings.Laws.{refused-by}
 use Rattle.monitor.specs.Record.{noLoads, noneBelowA, afterSettings, settingsAnswer, afterCompletion, completionAnswer}
@@ -60,32 +61,7 @@ unfolding afterSettings settingsAnswer
 settings-accepted m s next debug on accepted read keeps enables =
     (rw (accepted, ← read, ← enables, keeps), rw accepted)
 
--- a completion without a counter, by the counts below threshold A that it leaves
-abbrev pub withBelowA : Monitor → List ℕ → Monitor
-withBelowA m counts =
-    record {
-      settings = m .settings;
-      timer = m .timer;
-      «host_set» = m .«host_set»;
-      partial = m .partial;
-      clock = m .clock;
-      loaded = m .loaded;
-      debug = m .debug;
-      «active_below_a» = counts;
-      «static_below_a» = m .«static_below_a»;
-      «static_window» = m .«static_window»;
-      «active_window» = m .«active_window»;
-    }
-
-pub uncounted :
-    (m : Monitor) (c : Command) (counts : List ℕ) →
-    counterOf (m .settings) c ≡ none →
-    counts ≡ countedBelowA (belowAOf (m .settings) c) (m .«active_below_a») →
-    (withBelowA m counts ≡ afterCompletion m c) × (notCounted ≡ completionAnswer m c)
-unfolding afterCompletion completionAnswer
-uncounted m c counts e more = (rw (e, more), rw e)
-
--- one that is below threshold A, and one that is not
+-- a completion below threshold A, and one that is neither below it nor counted
 pub below-a :
     (m : Monitor) (c : Command) (counts : List ℕ) →
     isBelowA (m .settings) c ≡ true →

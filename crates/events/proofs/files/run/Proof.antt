@@ -4,7 +4,7 @@ use Prim.Native.Nat.{_-_}
 use borrow.Author.Needs.{needs}
 use Rattle.monitor.specs.Answers.{saysAnswer, saysElapsed}
 use Rattle.events.specs.Records.{wholeRecords}
-use Rattle.events.proofs.records.Laws.{stands-for, completion-call, completion-accepted}
+use Rattle.events.proofs.records.Laws.{stands-for, completion-call, completion-accepted, passed-over}
 use Rattle.events.proofs.records.Laws.{refusal-named, let-through}
 use Rattle.events.proofs.files.Laws.{Ran, the-record, sixteen, started, went-on, stopped, ended}
 use Rattle.events.proofs.files.run.Statement.{statement}
@@ -40,8 +40,8 @@ is-completion-requires c κs = sixteen _ (c .before .before .loop .i) (search ne
 command-requires : tie.Need-command-requires Inv-loop μ-loop
 command-requires c κs = sixteen _ (c .before .before .before .before .loop .i) (search needs)
 
-completion-requires : tie.Need-completion-requires Inv-loop μ-loop
-completion-requires c κs = search needs
+counter-requires : tie.Need-counter-requires Inv-loop μ-loop
+counter-requires c κs = search needs
 
 add-i : tie.Need-add-i Inv-loop μ-loop
 add-i c = search needs
@@ -51,7 +51,29 @@ loop-less c = search needs
 
 loop-again : tie.Need-loop-again Inv-loop μ-loop
 loop-again c =
-    let r = c .before .before in
+    let r = c .before .before .before in
+    let l = r .before .before .before .before .before .loop in
+    let call =
+    completion-call _ (sixteen _ (l .i) (search needs)) _ (r .command .ensures)
+    (sym (r .before .before .is-completion .ensures) ∙ r .before .if1 .taken)
+    in
+    went-on _ _ _ _ (l .i) _ (l .inv) (the-record _ (l .i))
+    (passed-over _ _ _ _ call (c .before .counter .ensures) (c .if2 .taken))
+    (completion-accepted _ _ call)
+    (search needs)
+
+completion-requires : tie.Need-completion-requires Inv-loop μ-loop
+completion-requires c κs = search needs
+
+add-i-2 : tie.Need-add-i-2 Inv-loop μ-loop
+add-i-2 c = search needs
+
+loop-less-2 : tie.Need-loop-less-2 Inv-loop μ-loop
+loop-less-2 c = search needs
+
+loop-again-2 : tie.Need-loop-again-2 Inv-loop μ-loop
+loop-again-2 c =
+    let r = c .before .before .before .before .before in
     let l = r .before .before .before .before .before .loop in
     let call =
     completion-call _ (sixteen _ (l .i) (search needs)) _ (r .command .ensures)
@@ -66,7 +88,7 @@ is-elapsed-requires c κs = sixteen _ (c .before .before .before .before .loop .
 elapsed-requires : tie.Need-elapsed-requires Inv-loop μ-loop
 elapsed-requires c κs = (
   sixteen _ (c .before .before .before .before .before .before .loop .i) (search needs),
-  sym (c .before .is-elapsed .ensures) ∙ c .if2 .taken,
+  sym (c .before .is-elapsed .ensures) ∙ c .if3 .taken,
 )
 
 enum-known-answer : tie.Need-enum-known-answer Inv-loop μ-loop
@@ -86,14 +108,14 @@ returns c =
     in
     (c .refused-at .ensures .0 ∙ s .0, c .refused-at .ensures .1 ∙ s .1)
 
-add-i-2 : tie.Need-add-i-2 Inv-loop μ-loop
-add-i-2 c = search needs
+add-i-3 : tie.Need-add-i-3 Inv-loop μ-loop
+add-i-3 c = search needs
 
-loop-less-2 : tie.Need-loop-less-2 Inv-loop μ-loop
-loop-less-2 c = search needs
+loop-less-3 : tie.Need-loop-less-3 Inv-loop μ-loop
+loop-less-3 c = search needs
 
-loop-again-2 : tie.Need-loop-again-2 Inv-loop μ-loop
-loop-again-2 c =
+loop-again-3 : tie.Need-loop-again-3 Inv-loop μ-loop
+loop-again-3 c =
     let o = c .before .before in
     let l = o .before .before .before .before .before .before .before .loop in
     went-on _ _ _ _ (l .i) _ (l .inv) (the-record _ (l .i)) (o .elapsed .ensures .0)
@@ -104,7 +126,7 @@ other-requires : tie.Need-other-requires Inv-loop μ-loop
 other-requires c κs = (
   sixteen _ (c .before .before .before .before .before .before .loop .i) (search needs),
   sym (c .before .before .before .is-completion .ensures) ∙ c .before .before .if1 .left,
-  sym (c .before .is-elapsed .ensures) ∙ c .if2 .left,
+  sym (c .before .is-elapsed .ensures) ∙ c .if3 .left,
 )
 
 enum-known-answer-2 : tie.Need-enum-known-answer-2 Inv-loop μ-loop
@@ -127,14 +149,14 @@ returns-2 c =
 enum-told : tie.Need-enum-told Inv-loop μ-loop
 enum-told c = search needs
 
-add-i-3 : tie.Need-add-i-3 Inv-loop μ-loop
-add-i-3 c = search needs
+add-i-4 : tie.Need-add-i-4 Inv-loop μ-loop
+add-i-4 c = search needs
 
-loop-less-3 : tie.Need-loop-less-3 Inv-loop μ-loop
-loop-less-3 c = search needs
+loop-less-4 : tie.Need-loop-less-4 Inv-loop μ-loop
+loop-less-4 c = search needs
 
-loop-again-3 : tie.Need-loop-again-3 Inv-loop μ-loop
-loop-again-3 c =
+loop-again-4 : tie.Need-loop-again-4 Inv-loop μ-loop
+loop-again-4 c =
     let o = c .before .before .before in
     let l = o .before .before .before .before .before .before .before .loop in
     went-on _ _ _ _ (l .i) _ (l .inv) (the-record _ (l .i)) (o .other .ensures .0)
@@ -158,24 +180,28 @@ run-spec =
     part-r-end
     is-completion-requires
     command-requires
-    completion-requires
+    counter-requires
     add-i
     loop-less
     loop-again
+    completion-requires
+    add-i-2
+    loop-less-2
+    loop-again-2
     is-elapsed-requires
     elapsed-requires
     enum-known-answer
     refused-at-requires
     returns
-    add-i-2
-    loop-less-2
-    loop-again-2
+    add-i-3
+    loop-less-3
+    loop-again-3
     other-requires
     enum-known-answer-2
     refused-at-requires-2
     returns-2
     enum-told
-    add-i-3
-    loop-less-3
-    loop-again-3
+    add-i-4
+    loop-less-4
+    loop-again-4
     returns-3)
