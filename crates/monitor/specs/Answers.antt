@@ -35,6 +35,7 @@ saysAnswer Done = done
 
 abbrev pub saysCompletion : CompletionAnswer → CallAnswer
 saysCompletion completion.NotCounted = notCounted
+saysCompletion completion.BelowA = notCounted
 saysCompletion (completion.Counted n d) = counted n false d
 saysCompletion (completion.Loaded n d) = counted n true d
 

@@ -4,6 +4,8 @@
 // The answer to a completion, which is never turned away.
 pub enum CompletionAnswer {
     NotCounted,
+    // Not counted: below threshold A. A way out of its own, for speed (docs/DECISIONS.md, 'Shape for speed').
+    BelowA,
     // Counted, with the stamp as it was; whether a debug log was taken.
     Counted { counter: u16, debug: bool },
     // Counted, and the stamp loaded; whether a debug log was taken.
