@@ -34,6 +34,7 @@ fn of_completion(a: CompletionAnswer) -> RecordAnswer
 {
     match a {
         CompletionAnswer::NotCounted => RecordAnswer::NotCounted,
+        CompletionAnswer::BelowA => RecordAnswer::NotCounted,
         CompletionAnswer::Counted { counter, debug } => RecordAnswer::Counted {
             counter,
             loaded: false,

@@ -26,7 +26,7 @@ use Rattle.logpage.proofs.reader.Reading as Rd
 use Rattle.logpage.proofs.reader.Reading.Laws as Rd′
 use Rattle.latency_monitor.proofs.reading.ReadOutcome as RO
 use Rattle.latency_monitor.proofs.reading.ReadOutcome.Laws as RO′
-use Rattle.latency_monitor.proofs.PlainData.{Plain, plain-uint, plain-struct, plain-enum, three-variants, Way, by-case}
+use Rattle.latency_monitor.proofs.PlainData.{Plain, plain-uint, plain-struct, plain-enum, tagged-enum, Way, by-case}
 use Rattle.latency_monitor.proofs.PlainData.{Outcome, outcome-struct}
 
 abbrev pub the-record : Plain Mon.the-row
@@ -42,10 +42,10 @@ abbrev pub elapsed-answer : Plain EN.the-row
 elapsed-answer = plain-enum EN.the-type EN′.the-laws tt EN′.the-plain EN′.the-copy
 
 abbrev pub completion-cases : Way completion-answer
-completion-cases = by-case (three-variants CN.the-type CN′.the-laws refl)
+completion-cases = by-case (tagged-enum CN.the-type CN′.the-laws refl (λ s. tt))
 
 abbrev pub elapsed-cases : Way elapsed-answer
-elapsed-cases = by-case (three-variants EN.the-type EN′.the-laws refl)
+elapsed-cases = by-case (tagged-enum EN.the-type EN′.the-laws refl (λ s. tt))
 
 abbrev pub outcome : Outcome the-record answer
 outcome =

@@ -31,7 +31,7 @@ use Rattle.latency_monitor.proofs.Walks.{Loan, lent, lent-mir, opened, 
 -- ---- the locals after the parameters: the outcome, the answer where the outcome does not keep it, and the record
 abbrev pub answer-local : {N : RattleType} {PN : Plain N} → Way PN → Option Ty
 answer-local once = absent
-answer-local {PN = PN} (by-case three) = present (PN .mir)
+answer-local {PN = PN} (by-case e) = present (PN .mir)
 
 module _ {T N : RattleType} {PT : Plain T} {PN : Plain N} (O : Outcome PT PN) (way : Way PN) where
   abbrev pub own-locals : List Local
@@ -69,9 +69,9 @@ module _ {T N R : RattleType} {PT : Plain T} {PN : Plain N} (O : Outcome PT PN) 
   -- the record is stored once; or in each arm of a `match` on the answer
   abbrev finishing : Way PN → Body
   finishing once = seq keeping (answering (place p (field 1 ∷ [])))
-  finishing (by-case three) =
+  finishing (by-case e) =
       seq (assign (place a []) (rvOpd (copy (place p (field 1 ∷ [])))))
-      (seq (matching a keeping) (answering (place a [])))
+      (seq (matching e a keeping) (answering (place a [])))
 
   abbrev pub storing : List Operand → Body
   storing xs = asking xs (finishing way)
@@ -170,11 +170,11 @@ module _ {T N R : RattleType} {PT : Plain T} {PN : Plain N} (O : Outcome PT PN) 
       finishes once r are at ends =
           keeps r are
           (λ _. load ! (found ! at-p (fld ! refl (stop !))) (look-in ! 5 (sub ! 1 refl (whole !)))) ends
-      finishes (by-case three) r are at ends =
+      finishes (by-case e) r are at ends =
           -- [B; the record; the open borrow; obs; auth; m; p; the pointer; the numbers; a; …]
           assigns ! (of-opd ! (load ! (found ! at-p (fld ! refl (stop !))) (look-in ! 6 (sub ! 1 refl (whole !)))))
           (found ! at (stop !)) (init ! 9 refl (PN .typed 𝓤 H A W (O .answer r) _ (are .1))) $
-          matches ! three (O .answer r) 9 at refl $
+          matches ! e (O .answer r) 9 at refl $
           keeps r are (λ _. load ! (found ! at (stop !)) (look ! 9 refl)) ends
 
       pub stores : {Γ : List (Item 𝓤)} {xs : List Operand}

@@ -3,7 +3,7 @@ ghost use mathlib.Core.Path.{_≡_};
 ghost use Rattle.monitor.specs.Answers.{saysAnswer, saysCompletion, saysElapsed};
 ghost use Rattle.monitor.specs.Report.{countsBelowA};
 ghost use Rattle.monitor.specs.declared.report.WindowChoice.the-variants.{Active, Static};
-ghost use Rattle.latency_monitor.specs.Answers.{asRefusal, asCompletion, asElapsed, asBelowA};
+ghost use Rattle.latency_monitor.specs.Answers.{asRefusal, noCounter, asCompletion, asElapsed, asBelowA};
 use monitor::Answer;
 use monitor::CompletionAnswer;
 use monitor::ElapsedAnswer;
@@ -52,16 +52,24 @@ pub(crate) fn refusal(a: Answer) -> u8
     }
 }
 
+// The answer to a completion that has no counter.
+fn no_counter() -> PlainCompletionAnswer
+    ensures { λ r. ⌜ r ≡ noCounter ⌝ }
+{
+    PlainCompletionAnswer {
+        counter: 0,
+        counted: false,
+        loaded: false,
+        debug: false,
+    }
+}
+
 pub(crate) fn completion(a: CompletionAnswer) -> PlainCompletionAnswer
     ensures { λ r. ⌜ r ≡ asCompletion (saysCompletion a) ⌝ }
 {
     match a {
-        CompletionAnswer::NotCounted => PlainCompletionAnswer {
-            counter: 0,
-            counted: false,
-            loaded: false,
-            debug: false,
-        },
+        CompletionAnswer::NotCounted => no_counter(),
+        CompletionAnswer::BelowA => no_counter(),
         CompletionAnswer::Counted { counter, debug } => PlainCompletionAnswer {
             counter,
             counted: true,

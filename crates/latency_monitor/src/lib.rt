@@ -57,6 +57,9 @@ pub extern "C" fn latency_monitor_completion(m: &mut Monitor, c: Command) -> Pla
         CompletionAnswer::NotCounted => {
             *m = o.next;
         }
+        CompletionAnswer::BelowA => {
+            *m = o.next;
+        }
         CompletionAnswer::Counted { .. } => {
             *m = o.next;
         }

@@ -11,6 +11,15 @@ use Rattle.latency_monitor.proofs.answers.completion.Tie as tie
 enum-told : tie.Need-enum-told
 enum-told c = search needs
 
+no-counter-requires : tie.Need-no-counter-requires
+no-counter-requires c κs = search needs
+
+enum-told-2 : tie.Need-enum-told-2
+enum-told-2 c = search needs
+
+no-counter-requires-2 : tie.Need-no-counter-requires-2
+no-counter-requires-2 c κs = search needs
+
 enum-known-a : tie.Need-enum-known-a
 enum-known-a c = search needs
 
@@ -21,13 +30,28 @@ abbrev numbers : CompletionAnswer → PlainCompletionAnswer
 numbers a = asCompletion (saysCompletion a)
 
 returns : tie.Need-returns
-returns c = sym (ap numbers (c .enum-told .given .1))
+returns c = search needs
 
 returns-2 : tie.Need-returns-2
-returns-2 c = sym (ap numbers (c .before .a .given .1))
+returns-2 c = search needs
 
 returns-3 : tie.Need-returns-3
-returns-3 c = sym (ap numbers (c .before .a2 .given .1))
+returns-3 c = sym (ap numbers (c .before .a .given .1))
+
+returns-4 : tie.Need-returns-4
+returns-4 c = sym (ap numbers (c .before .a2 .given .1))
 
 pub completion-spec : {M : Type 1} → statement M
-completion-spec = tie.close (tie.spec enum-told enum-known-a enum-known-a-2 returns returns-2 returns-3)
+completion-spec =
+    tie.close
+    (tie.spec
+    enum-told
+    no-counter-requires
+    enum-told-2
+    no-counter-requires-2
+    enum-known-a
+    enum-known-a-2
+    returns
+    returns-2
+    returns-3
+    returns-4)
