@@ -4,7 +4,7 @@ use Prim.Native.Nat.{_-_}
 use borrow.Author.Needs.{needs}
 use Rattle.monitor.specs.Answers.{saysAnswer, saysElapsed}
 use Rattle.events.specs.Records.{wholeRecords}
-use Rattle.events.proofs.records.Laws.{stands-for, completion-call, completion-accepted, passed-over}
+use Rattle.events.proofs.records.Laws.{stands-for, completion-call, completion-accepted, spared}
 use Rattle.events.proofs.records.Laws.{refusal-named, let-through}
 use Rattle.events.proofs.files.Laws.{Ran, the-record, sixteen, started, went-on, stopped, ended}
 use Rattle.events.proofs.files.run.Statement.{statement}
@@ -43,6 +43,9 @@ command-requires c κs = sixteen _ (c .before .before .before .before .loop .i) 
 counter-requires : tie.Need-counter-requires Inv-loop μ-loop
 counter-requires c κs = search needs
 
+below-a-requires : tie.Need-below-a-requires Inv-loop μ-loop
+below-a-requires c κs = search needs
+
 add-i : tie.Need-add-i Inv-loop μ-loop
 add-i c = search needs
 
@@ -51,14 +54,15 @@ loop-less c = search needs
 
 loop-again : tie.Need-loop-again Inv-loop μ-loop
 loop-again c =
-    let r = c .before .before .before in
+    let test = c .before .before in
+    let r = test .before .before .before in
     let l = r .before .before .before .before .before .loop in
     let call =
     completion-call _ (sixteen _ (l .i) (search needs)) _ (r .command .ensures)
     (sym (r .before .before .is-completion .ensures) ∙ r .before .if1 .taken)
     in
     went-on _ _ _ _ (l .i) _ (l .inv) (the-record _ (l .i))
-    (passed-over _ _ _ _ call (c .before .counter .ensures) (c .if2 .taken))
+    (spared _ _ _ _ _ call (test .before .counter .ensures) (test .if2 .taken) (c .below-a .ensures))
     (completion-accepted _ _ call)
     (search needs)
 
@@ -181,6 +185,7 @@ run-spec =
     is-completion-requires
     command-requires
     counter-requires
+    below-a-requires
     add-i
     loop-less
     loop-again
