@@ -66,9 +66,9 @@ counterOf s c =
     (cond (reachesA (s .thresholds) c) (counterAt (bucketOf (s .thresholds) c) (kindOf c)) none)
     none
 
--- 02, Ticket 2: whether a completion is enabled and below threshold A; and the kind of one that is
+-- 02, Ticket 2: whether a completion is below threshold A and enabled; and the kind of one that is
 unfoldable pub isBelowA : Settings → Command → Bool
-isBelowA s c = s .enabled && not (reachesA (s .thresholds) c)
+isBelowA s c = not (reachesA (s .thresholds) c) && s .enabled
 
 unfoldable pub belowAOf : Settings → Command → Option ℕ
 belowAOf s c = cond (isBelowA s c) (kindOf c) none

@@ -128,19 +128,15 @@ impl Command {
         }
     }
 
-    // Whether the completion is enabled and below threshold A.
+    // Whether the completion is below threshold A and enabled.
     pub(crate) fn is_below_a(self, s: Settings) -> bool
         ensures { λ r. ⌜ r ≡ isBelowA s self ⌝ }
     {
-        if s.enabled {
-            let thresholds = s.thresholds;
-            if reaches(self.latency, thresholds[0]) {
-                false
-            } else {
-                true
-            }
-        } else {
+        let thresholds = s.thresholds;
+        if reaches(self.latency, thresholds[0]) {
             false
+        } else {
+            s.enabled
         }
     }
 

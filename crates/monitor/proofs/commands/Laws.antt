@@ -166,7 +166,8 @@ sorted s c = by (s .enabled) refl (reachesA (s .thresholds) c) refl (kindOf c) r
         (kind : Option ℕ) →
         kindOf c ≡ kind →
         Sorted s c
-    by false off t a kind k = disabled off (rw off) (rw off)
+    by false off true a kind k = disabled off (rw off) (rw a)
+    by false off false a kind k = disabled off (rw off) (rw (a, off))
     by true on false a none k = kindless k (rw (on, a)) (rw (on, a) k)
     by true on true a none k = kindless k (rw (on, a, k) (at-no-kind (highestBelow (s .thresholds) (c .latency) 4))) (rw (on, a))
     by true on false a (some kind) k =

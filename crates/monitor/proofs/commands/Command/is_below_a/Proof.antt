@@ -1,4 +1,4 @@
--- `Command::is_below_a`: at threshold A or above, below it, and disabled.
+-- `Command::is_below_a`: at threshold A or above, and below it.
 use mathlib.Core.Path.{sym, _∙_}
 use Rattle.monitor.specs.Commands.{isBelowA}
 use borrow.Author.Needs.{needs}
@@ -13,16 +13,11 @@ reaches-requires c κs = search needs
 
 returns : tie.Need-returns
 unfolding isBelowA
-returns c = rw (c .before .before .before .if1 .taken, sym (c .before .reaches .ensures) ∙ c .if2 .taken)
+returns c = rw (sym (c .before .reaches .ensures) ∙ c .if1 .taken)
 
 returns-2 : tie.Need-returns-2
 unfolding isBelowA
-returns-2 c = rw (c .before .before .before .if1 .taken, sym (c .before .reaches .ensures) ∙ c .if2 .left)
-
-returns-3 : tie.Need-returns-3
-unfolding isBelowA
-returns-3 c = rw (c .if1 .left)
+returns-2 c = rw (sym (c .before .reaches .ensures) ∙ c .if1 .left)
 
 pub is-below-a-spec : {M : Type 1} → statement M
-is-below-a-spec =
-    tie.close (tie.spec array-read-reaches reaches-requires returns returns-2 returns-3)
+is-below-a-spec = tie.close (tie.spec array-read-reaches reaches-requires returns returns-2)
