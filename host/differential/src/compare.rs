@@ -23,10 +23,10 @@ const ACTIVE_BELOW_A: Range<usize> = 32..44;
 /// Makes a call, and compares its answer, the buffer that it was lent, and the record if the call must leave it. A
 /// completion that is not counted must leave all but the counts below A.
 pub fn call(monitor: &mut Monitor, call: &Call, due: Answer, facts: &Facts, salt: u8) -> Result<(), String> {
-    let mut before = *monitor.as_bytes();
+    let mut record = *monitor.as_bytes();
     if due == Answer::NotCounted {
         let counts = facts.active_below_a.map(u32::to_ne_bytes);
-        before[ACTIVE_BELOW_A].copy_from_slice(counts.as_flattened());
+        record[ACTIVE_BELOW_A].copy_from_slice(counts.as_flattened());
     }
     let mut lent = match call {
         Call::Settings(bytes) => Lent::holding(bytes, salt),
@@ -37,7 +37,7 @@ pub fn call(monitor: &mut Monitor, call: &Call, due: Answer, facts: &Facts, salt
     lent.check(content(call, due, facts).as_deref())?;
     let leaves = matches!(due, Answer::Refused(_) | Answer::NotCounted | Answer::BelowA(_));
     if leaves || matches!(call, Call::Page(_) | Call::SettingsBack(_)) {
-        left(&before, monitor)?;
+        left(&record, monitor)?;
     }
     Ok(())
 }
@@ -55,11 +55,12 @@ pub fn read(lent: &mut Reading, bytes: &[u8]) -> Result<u8, String> {
     Ok(answer)
 }
 
-/// The record is byte for byte as it was.
-pub fn left(before: &[u8], monitor: &Monitor) -> Result<(), String> {
-    match difference(before, monitor.as_bytes()) {
+/// The record has these bytes.
+pub fn left(due: &[u8], monitor: &Monitor) -> Result<(), String> {
+    let is = monitor.as_bytes();
+    match difference(is, due) {
         None => Ok(()),
-        Some(place) => Err(format!("byte {place} of the record was changed")),
+        Some(place) => Err(format!("byte {place} of the record is {:02X}, not {:02X}", is[place], due[place])),
     }
 }
 
