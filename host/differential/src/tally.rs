@@ -25,7 +25,7 @@ const CALLS: [&str; 9] = [
 const REFUSALS: [&str; 10] = ["by 1", "by 2", "by 3", "by 4", "by 5", "by 6", "by 7", "by 8", "by 9", "by 10"];
 const ANSWERS: [&str; 6] = ["done", "not counted", "counted", "stamp loaded", "debug log taken", "window ended"];
 /// Completions that were counted, by kind, and what met counts that were not all zero: a window's end that moved them,
-/// and one that put others in their place; settings that emptied them, and others; a completion below A while disabled.
+/// and one that put others in their place; settings that emptied or kept them; a completion below A while disabled.
 const BELOW_A: [&str; 8] = ["Read", "Write", "Deallocate", "moved", "replaced", "emptied", "kept", "frozen"];
 const PAGES: [&str; 4] = ["accepted", "by 13", "by 14", "by 15"];
 
