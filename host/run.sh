@@ -20,6 +20,7 @@ LATENCY_MONITOR_LIB=$(realpath "${LATENCY_MONITOR_LIB:-$top/target/staticlib}")
 LATENCY_MONITOR_PAGE=$(realpath "${LATENCY_MONITOR_PAGE:-$top/target/bin/page}")
 export LATENCY_MONITOR_LIB LATENCY_MONITOR_PAGE
 archive=$LATENCY_MONITOR_LIB/liblatency_monitor.a
+header=$top/include/latency_monitor.h
 
 # none WHAT: fails if there are lines to read.
 none() {
@@ -37,8 +38,9 @@ in_cargo() {
 }
 
 echo "host: symbols and sections"
-nm -P --extern-only --defined-only "$archive" |
-    awk '!/:$/ && $1 !~ /^latency_monitor_/' | none "a global name without the prefix"
+comm -3 <(nm -P --extern-only --defined-only "$archive" | awk '!/:$/ { print $1 }' | sort) \
+    <(grep -o 'latency_monitor_[a-z_]*(' "$header" | tr -d '(' | sort) |
+    none "a name of the archive or the header alone"
 nm -P --undefined-only "$archive" |
     awk '!/:$/ && $1 !~ /^mem(cpy|set)$/' | none "a name that the header does not ask for"
 objdump --section-headers --wide "$archive" |
@@ -46,7 +48,6 @@ objdump --section-headers --wide "$archive" |
 
 echo "host: header and example"
 checks=(-Wall -Wextra -Werror -pedantic -I "$top/include")
-header=$top/include/latency_monitor.h
 g++ -std=c++11 "${checks[@]}" -fsyntax-only -x c++ "$header"
 g++ -std=c++17 "${checks[@]}" -fsyntax-only -x c++ "$header"
 # 32 bits, with 64-bit numbers aligned as on Arm and RISC-V.

@@ -1,5 +1,5 @@
-/* Document 01's example as firmware would play it, with a power cycle: prints the page as the page program does, and
- * reads it as a lab tool would. */
+/* Document 01's example as firmware would play it, with a fast Read and a power cycle: prints the page as the page
+ * program does, and reads it as a lab tool would. */
 
 #include <stdio.h>
 #include <stdlib.h>
@@ -37,6 +37,24 @@ static void complete_a_read(void)
     expect(answer.counted && answer.counter == 0, "the Read counts in bucket 0");
     expect(answer.loaded, "its latency stamp is loaded");
     expect(answer.debug, "a debug log is taken");
+}
+
+/* No counter has it, and no page shows it. */
+static void complete_a_fast_read(void)
+{
+    const struct latency_monitor_command command = {.opcode = 0x02, .latency = 300};
+
+    expect(!latency_monitor_completion(&monitor, command).counted, "a Read below threshold A has no counter");
+}
+
+static void compare_reads(void)
+{
+    const struct latency_monitor_below_a active = latency_monitor_active_below_a(&monitor);
+    const struct latency_monitor_below_a finished = latency_monitor_static_below_a(&monitor);
+
+    expect(monitor.active_window.counters[0] == 1, "the record shows the Read");
+    expect(active.read == 1 && active.write == 0 && active.deallocate == 0, "one of two Reads was below threshold A");
+    expect(finished.read == 0 && finished.write == 0 && finished.deallocate == 0, "no window has ended");
 }
 
 /* The record is kept with its version, and copied back after the power cycle. */
@@ -97,8 +115,9 @@ int main(void)
     elapsed = latency_monitor_elapsed(&monitor, 1000);
     expect(elapsed.refusal == LATENCY_MONITOR_ACCEPTED && !elapsed.ended, "the active window goes on");
     complete_a_read();
+    complete_a_fast_read();
     power_cycle();
-    expect(monitor.active_window.counters[0] == 1, "the record shows the Read");
+    compare_reads();
 
     expect(latency_monitor_page(&monitor, page, sizeof page) == LATENCY_MONITOR_ACCEPTED, "the page");
     expect(latency_monitor_page(&monitor, page, 511) == LATENCY_MONITOR_PAGE_LENGTH_WRONG, "a page of 511 bytes");

@@ -3,7 +3,7 @@
 use latency_monitor::{Monitor, RECORD_LENGTH};
 use reference::answers::{answer, Answer};
 use reference::facts::{facts, Facts};
-use reference::history::{Call, PAGE_LENGTH, SETTINGS_LENGTH};
+use reference::history::{Call, Window, PAGE_LENGTH, SETTINGS_LENGTH};
 use reference::page::page_bytes;
 use reference::random::Random;
 
@@ -14,6 +14,8 @@ use crate::tally::Tally;
 pub struct Bench {
     monitors: Vec<Monitor>,
     histories: Vec<Vec<Call>>,
+    /// Of each history.
+    facts: Vec<Facts>,
     tally: Tally,
 }
 
@@ -22,6 +24,7 @@ impl Bench {
         Bench {
             monitors: (0..monitors).map(|_| Monitor::new()).collect(),
             histories: vec![vec![]; monitors],
+            facts: (0..monitors).map(|_| facts(&[])).collect(),
             tally: Tally::of_histories(monitors),
         }
     }
@@ -32,8 +35,8 @@ impl Bench {
 
     /// Reads the page of each history, and damaged ones.
     pub fn read_pages(&mut self, random: &mut Random) -> Result<(), String> {
-        for history in &self.histories {
-            pages::read_around(random, page_bytes(&facts(history)), &mut self.tally)?;
+        for facts in &self.facts {
+            pages::read_around(random, page_bytes(facts), &mut self.tally)?;
         }
         Ok(())
     }
@@ -52,21 +55,29 @@ impl Bench {
     pub fn call(&mut self, at: usize, call: Call, salt: u8) -> Result<(), String> {
         self.histories[at].push(call);
         let history = &self.histories[at];
-        let due = answer(history);
-        self.tally.call(&history[history.len() - 1], due);
-        step(&mut self.monitors, at, history, due, salt).map_err(|difference| {
+        let (due, facts) = (answer(history), facts(history));
+        self.tally.call(&history[history.len() - 1], due, &self.facts[at], &facts);
+        step(&mut self.monitors, at, history, due, &facts, salt).map_err(|difference| {
             let calls: String = history.iter().map(|call| shown(call) + "\n").collect();
             format!("{calls}monitor {at}, after the last of these calls: {difference}")
-        })
+        })?;
+        self.facts[at] = facts;
+        Ok(())
     }
 }
 
-/// Makes the last call of a history; the other monitors stay as they were.
-fn step(monitors: &mut [Monitor], at: usize, history: &[Call], due: Answer, salt: u8) -> Result<(), String> {
+/// Makes the last call of a history with these facts; the other monitors stay as they were.
+fn step(
+    monitors: &mut [Monitor],
+    at: usize,
+    history: &[Call],
+    due: Answer,
+    facts: &Facts,
+    salt: u8,
+) -> Result<(), String> {
     let before: Vec<[u8; RECORD_LENGTH]> = monitors.iter().map(|monitor| *monitor.as_bytes()).collect();
-    let facts = facts(history);
-    compare::call(&mut monitors[at], &history[history.len() - 1], due, &facts, salt)?;
-    look(&mut monitors[at], history, &facts, salt)?;
+    compare::call(&mut monitors[at], &history[history.len() - 1], due, facts, salt)?;
+    look(&mut monitors[at], history, facts, salt)?;
     for other in (0..monitors.len()).filter(|&other| other != at) {
         compare::left(&before[other], &monitors[other])
             .map_err(|difference| format!("monitor {other}: {difference}"))?;
@@ -74,13 +85,19 @@ fn step(monitors: &mut [Monitor], at: usize, history: &[Call], due: Answer, salt
     Ok(())
 }
 
-/// The record, the page, what is read of the page, and the settings given back show the facts of a history, and the
-/// record's bytes bring the monitor back.
+/// The record, the page, what is read of the page, the settings given back and the counts below A show the facts of a
+/// history, and the record's bytes bring the monitor back.
 fn look(monitor: &mut Monitor, history: &[Call], facts: &Facts, salt: u8) -> Result<(), String> {
     compare::fields(monitor.record(), history, facts)?;
     compare::restored(monitor, facts).map_err(|difference| format!("restored: {difference}"))?;
-    for call in [Call::Page(PAGE_LENGTH), Call::SettingsBack(SETTINGS_LENGTH)] {
-        compare::call(monitor, &call, Answer::Done, facts, salt)
+    let reads = [
+        (Call::Page(PAGE_LENGTH), Answer::Done),
+        (Call::SettingsBack(SETTINGS_LENGTH), Answer::Done),
+        (Call::BelowA(Window::Active), Answer::BelowA(facts.active_below_a)),
+        (Call::BelowA(Window::Static), Answer::BelowA(facts.static_below_a)),
+    ];
+    for (call, due) in reads {
+        compare::call(monitor, &call, due, facts, salt)
             .map_err(|difference| format!("{}: {difference}", shown(&call)))?;
     }
     compare::read_back(monitor, facts).map_err(|difference| format!("the page, read: {difference}"))

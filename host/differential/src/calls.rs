@@ -1,12 +1,13 @@
 //! Random calls, most of them near the places where the rules change their mind.
 
 use reference::facts::{in_force, window_time};
-use reference::history::{Call, Settings, INCREMENT_MS, PAGE_LENGTH, SETTINGS_LENGTH, TIMESTAMP_TOP};
+use reference::history::{Call, Settings, Window, INCREMENT_MS, PAGE_LENGTH, SETTINGS_LENGTH, TIMESTAMP_TOP};
 use reference::random::Random;
 
 const READ: u8 = 0x02;
 const WRITE: u8 = 0x01;
 const DEALLOCATE: u8 = 0x09;
+pub const KINDS: [u8; 3] = [READ, WRITE, DEALLOCATE];
 /// A bit for each counter.
 const ALL: u16 = 0x0FFF;
 /// The first latency that shows 65,535 ms, in microseconds.
@@ -22,9 +23,10 @@ pub fn next(random: &mut Random, history: &[Call]) -> Call {
         44..=69 => Call::Elapsed(elapsed(random, history)),
         70..=78 => Call::Settings(settings(random, history)),
         79..=85 => Call::Timestamp(timestamp(random)),
-        86..=89 => Call::PowerUp,
-        90..=94 => Call::Page(length(random, PAGE_LENGTH)),
-        _ => Call::SettingsBack(length(random, SETTINGS_LENGTH)),
+        86..=88 => Call::PowerUp,
+        89..=92 => Call::Page(length(random, PAGE_LENGTH)),
+        93..=96 => Call::SettingsBack(length(random, SETTINGS_LENGTH)),
+        _ => Call::BelowA(random.pick(&[Window::Active, Window::Static])),
     }
 }
 
@@ -43,21 +45,24 @@ fn completion(random: &mut Random, history: &[Call]) -> Call {
     let any = random.bits() as u8;
     let opcode = match random.below(20) {
         0..=9 => last_opcode,
-        10..=18 => random.pick(&[READ, WRITE, DEALLOCATE]),
+        10..=18 => random.pick(&KINDS),
         _ => random.pick(&[0x00, 0x03, 0x08, 0x0A, 0x82, 0xFF, any]),
     };
     Call::Completion { opcode, latency_us: latency(random, history, last_latency) }
 }
 
+/// The first latency that reaches a threshold, in microseconds.
+pub fn reached(threshold: u8) -> u32 {
+    5_000 * (u32::from(threshold) + 1)
+}
+
 fn latency(random: &mut Random, history: &[Call], last: u32) -> u32 {
     let whole = last / 1_000 * 1_000;
+    let thresholds = in_force(history).thresholds;
     match random.below(20) {
-        0..=7 => {
-            let threshold = random.pick(&in_force(history).thresholds);
-            let from = 5_000 * (u32::from(threshold) + 1);
-            beside(from, random.pick(&[-1_000, -1, 0, 1, 999, 1_000]))
-        }
-        8..=15 => beside(whole, random.pick(&[-1, 0, 999, 1_000, 1_999, 2_000])),
+        0..=6 => beside(reached(random.pick(&thresholds)), random.pick(&[-1_000, -1, 0, 1, 999, 1_000])),
+        7..=8 => random.below(reached(thresholds[0]).into()) as u32,
+        9..=15 => beside(whole, random.pick(&[-1, 0, 999, 1_000, 1_999, 2_000])),
         16 => beside(LATENCY_TOP, random.pick(&[-1, 0, 999, 1_000])),
         17 => beside(1_000 * random.from(1, 2_000) as u32, random.pick(&[-1, 0])),
         18 => random.pick(&[0, 1, u32::MAX - 1, u32::MAX]),

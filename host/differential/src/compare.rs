@@ -4,23 +4,30 @@ use std::fmt::Debug;
 use std::ops::Range;
 
 use latency_monitor::{
-    read_page, Command, CompletionAnswer, DamagedRecord, DebugLog, ElapsedAnswer, Monitor, Reading, Record, Refusal,
-    Settings as Held, Window,
+    read_page, BelowA, Command, CompletionAnswer, DamagedRecord, DebugLog, ElapsedAnswer, Monitor, Reading, Record,
+    Refusal, Settings as Held, Window,
 };
 use reference::answers::Answer;
 use reference::facts::{clock, facts, window_time, Facts, WindowFacts, NO_STAMP};
-use reference::history::{Call, Settings, INCREMENT_MS, PAGE_LENGTH};
+use reference::history::{Call, Settings, Window as Asked, INCREMENT_MS, PAGE_LENGTH};
 use reference::page::page_bytes;
 use reference::reading;
 
 use crate::lent::{difference, Lent};
 
 /// Where the header has the record's bools.
-const BOOLS: [Range<usize>; 5] = [11..12, 14..15, 140..141, 312..324, 496..508];
+const BOOLS: [Range<usize>; 5] = [11..12, 14..15, 164..165, 336..348, 520..532];
+/// And the counts below A of the active window.
+const ACTIVE_BELOW_A: Range<usize> = 32..44;
 
-/// Makes a call, and compares its answer, the buffer that it was lent, and the record if the call must leave it.
+/// Makes a call, and compares its answer, the buffer that it was lent, and the record if the call must leave it. A
+/// completion that is not counted must leave all but the counts below A.
 pub fn call(monitor: &mut Monitor, call: &Call, due: Answer, facts: &Facts, salt: u8) -> Result<(), String> {
-    let before = *monitor.as_bytes();
+    let mut record = *monitor.as_bytes();
+    if due == Answer::NotCounted {
+        let counts = facts.active_below_a.map(u32::to_ne_bytes);
+        record[ACTIVE_BELOW_A].copy_from_slice(counts.as_flattened());
+    }
     let mut lent = match call {
         Call::Settings(bytes) => Lent::holding(bytes, salt),
         Call::Page(length) | Call::SettingsBack(length) => Lent::patterned(*length, salt),
@@ -28,9 +35,9 @@ pub fn call(monitor: &mut Monitor, call: &Call, due: Answer, facts: &Facts, salt
     };
     same("answer", answer(monitor, call, lent.slice()), due)?;
     lent.check(content(call, due, facts).as_deref())?;
-    let leaves = matches!(due, Answer::Refused(_) | Answer::NotCounted);
+    let leaves = matches!(due, Answer::Refused(_) | Answer::NotCounted | Answer::BelowA(_));
     if leaves || matches!(call, Call::Page(_) | Call::SettingsBack(_)) {
-        left(&before, monitor)?;
+        left(&record, monitor)?;
     }
     Ok(())
 }
@@ -48,11 +55,12 @@ pub fn read(lent: &mut Reading, bytes: &[u8]) -> Result<u8, String> {
     Ok(answer)
 }
 
-/// The record is byte for byte as it was.
-pub fn left(before: &[u8], monitor: &Monitor) -> Result<(), String> {
-    match difference(before, monitor.as_bytes()) {
+/// The record has these bytes.
+pub fn left(due: &[u8], monitor: &Monitor) -> Result<(), String> {
+    let is = monitor.as_bytes();
+    match difference(is, due) {
         None => Ok(()),
-        Some(place) => Err(format!("byte {place} of the record was changed")),
+        Some(place) => Err(format!("byte {place} of the record is {:02X}, not {:02X}", is[place], due[place])),
     }
 }
 
@@ -79,6 +87,8 @@ fn answer(monitor: &mut Monitor, call: &Call, lent: &mut [u8]) -> Answer {
         Call::PowerUp => done(monitor.power_up()),
         Call::Page(_) => done(monitor.page(lent)),
         Call::SettingsBack(_) => done(monitor.settings_back(lent)),
+        Call::BelowA(Asked::Active) => below_a(monitor.active_below_a()),
+        Call::BelowA(Asked::Static) => below_a(monitor.static_below_a()),
         Call::Preset { .. } => unreachable!("no call of the library"),
     }
 }
@@ -88,6 +98,11 @@ fn done(answer: Result<(), Refusal>) -> Answer {
         Ok(()) => Answer::Done,
         Err(refusal) => Answer::Refused(refusal.number()),
     }
+}
+
+fn below_a(answer: BelowA) -> Answer {
+    let BelowA { read, write, deallocate } = answer;
+    Answer::BelowA([read, write, deallocate])
 }
 
 /// What a lent buffer holds after the call, if not its pattern.
@@ -141,6 +156,8 @@ pub fn fields(record: &Record, history: &[Call], facts: &Facts) -> Result<(), St
     same("timer", record.timer, facts.timer)?;
     let time = window_time(history, history.len()).map_or(0, |(_, time)| time);
     same("partial", u64::from(record.partial), time % INCREMENT_MS)?;
+    same("static_below_a", record.static_below_a, facts.static_below_a)?;
+    same("active_below_a", record.active_below_a, facts.active_below_a)?;
     same("clock and host_set", (record.clock, record.host_set), clock(history))?;
     window("static window", &record.static_window, &facts.static_window)?;
     window("active window", &record.active_window, &facts.active_window)?;

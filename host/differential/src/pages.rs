@@ -83,6 +83,8 @@ fn any_facts(random: &mut Random, percent: u64) -> Facts {
         active_window: any_window(random, percent),
         static_window: any_window(random, percent),
         debug_log: random.chance(percent).then(|| (random.below(COUNTERS as u64) as usize, any_event(random))),
+        active_below_a: [0; 3],
+        static_below_a: [0; 3],
     }
 }
 

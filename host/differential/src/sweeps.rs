@@ -2,6 +2,8 @@
 
 use reference::history::{Call, Settings};
 
+use crate::calls::{reached, KINDS};
+
 /// Longer than any buffer that a call accepts.
 const LONGEST: usize = 4_200;
 
@@ -35,17 +37,19 @@ fn settings() -> impl Iterator<Item = Vec<Call>> {
     named.chain((13..4_096).map(|place| with(place, 1)))
 }
 
-/// Each opcode, and both sides of each threshold.
+/// Each opcode, slow and below A, and both sides of each threshold for each kind.
 fn completions() -> impl Iterator<Item = Vec<Call>> {
-    let opcodes = (0..=0xFF).map(|opcode| vec![Call::Settings(base().to_buffer()), completion(opcode, 50_000)]);
-    let thresholds = (0..=0xFF).map(|v| {
-        let reached = 5_000 * (u32::from(v) + 1);
+    let opcodes = (0..=0xFF).map(|opcode| completed(base(), opcode, [50_000, 0]));
+    let thresholds = (0..=0xFF).flat_map(|v| {
         let settings = Settings { thresholds: [v; 4], ..base() };
-        vec![Call::Settings(settings.to_buffer()), completion(0x02, reached - 1), completion(0x02, reached)]
+        KINDS.map(|opcode| completed(settings, opcode, [reached(v) - 1, reached(v)]))
     });
     opcodes.chain(thresholds)
 }
 
-fn completion(opcode: u8, latency_us: u32) -> Call {
-    Call::Completion { opcode, latency_us }
+/// Settings, and completions of an opcode.
+fn completed(settings: Settings, opcode: u8, latencies: [u32; 2]) -> Vec<Call> {
+    let mut calls = vec![Call::Settings(settings.to_buffer())];
+    calls.extend(latencies.map(|latency_us| Call::Completion { opcode, latency_us }));
+    calls
 }

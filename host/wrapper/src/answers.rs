@@ -76,6 +76,7 @@ pub(crate) fn accepted(number: u8) -> Result<(), Refusal> {
 /// The answer to a completion.
 #[derive(Clone, Copy, Debug, PartialEq, Eq)]
 pub enum CompletionAnswer {
+    /// No counter has it. One below threshold A may be in [`active_below_a`](crate::Monitor::active_below_a).
     NotCounted,
     Counted {
         counter: usize,

@@ -18,6 +18,9 @@
 //! let mut page = [0; PAGE_LENGTH];
 //! monitor.page(&mut page)?;
 //! assert_eq!(page[44], 1); // Reads in bucket 0
+//!
+//! assert_eq!(monitor.completion(Command { opcode: 0x02, latency: 300 }), CompletionAnswer::NotCounted);
+//! assert_eq!(monitor.active_below_a().read, 1); // one of two Reads was below threshold A
 //! # Ok::<(), latency_monitor::Refusal>(())
 //! ```
 
@@ -34,7 +37,7 @@ use core::mem::MaybeUninit;
 pub use answers::{CompletionAnswer, ElapsedAnswer, Refusal};
 pub use reading::read_page;
 pub use restore::DamagedRecord;
-pub use sys::{Command, DebugLog, LogPage, Reading, Record, Settings, Window, COUNTERS};
+pub use sys::{BelowA, Command, DebugLog, LogPage, Reading, Record, Settings, Window, COUNTERS};
 
 /// The length of settings.
 pub const SETTINGS_LENGTH: usize = 4096;
@@ -45,7 +48,7 @@ pub const RECORD_LENGTH: usize = size_of::<Record>();
 /// The length of a reading.
 pub const READING_LENGTH: usize = size_of::<Reading>();
 /// Changes when the record does; to be kept with a record's bytes.
-pub const RECORD_VERSION: u32 = 1;
+pub const RECORD_VERSION: u32 = 2;
 /// A latency stamp that is not set.
 pub const UNSET: u64 = u64::MAX;
 
@@ -70,8 +73,9 @@ impl Monitor {
     ///
     /// Bytes that no history of calls leaves are refused: a bool that is neither 0 nor 1; settings that are neither
     /// zero nor accepted; a timer, partial increment or clock beyond its end; a debug log or a counter whose parts
-    /// disagree; a load later than the time in the window. Other damage is not seen, and a checksum is for the keeper
-    /// to add. Bytes of another [`RECORD_VERSION`] are not to be restored.
+    /// disagree; a load later than the time in the window; with settings that are zero, a timer, count, stamp or debug
+    /// log that a new monitor has not. Other damage is not seen, and a checksum is for the keeper to add. Bytes of
+    /// another [`RECORD_VERSION`] are not to be restored.
     pub fn restore(bytes: &[u8; RECORD_LENGTH]) -> Result<Monitor, DamagedRecord> {
         restore::record(bytes).map(Monitor)
     }
@@ -110,6 +114,18 @@ impl Monitor {
     pub fn power_up(&mut self) -> Result<(), Refusal> {
         // SAFETY: the record is borrowed alone.
         answers::accepted(unsafe { sys::latency_monitor_power_up(&mut self.0) })
+    }
+
+    /// The completions below threshold A in the active window, which no counter has and no page shows.
+    pub fn active_below_a(&self) -> BelowA {
+        // SAFETY: the record is only read.
+        unsafe { sys::latency_monitor_active_below_a(&self.0) }
+    }
+
+    /// The same in the static window.
+    pub fn static_below_a(&self) -> BelowA {
+        // SAFETY: the record is only read.
+        unsafe { sys::latency_monitor_static_below_a(&self.0) }
     }
 
     /// Writes log page C3h, 512 bytes.

@@ -47,7 +47,7 @@ fn flags() -> impl Iterator<Item = usize> {
     single.into_iter().chain(units.into_iter().flat_map(|first| first..first + COUNTERS))
 }
 
-/// What holds after any history of calls.
+/// What holds after any history of calls. Once a monitor was enabled, a count below threshold A may be any number.
 fn left_by_calls(record: &Record) -> bool {
     settings(&record.settings)
         && times(record)
@@ -55,6 +55,7 @@ fn left_by_calls(record: &Record) -> bool {
         && window(&record.static_window)
         && window(&record.active_window)
         && loads(record)
+        && (record.settings.timer_threshold > 0 || never_enabled(record))
 }
 
 /// Settings are zero as a new monitor's, or were accepted.
@@ -95,4 +96,14 @@ fn loads(record: &Record) -> bool {
     let now = u64::from(record.timer) * u64::from(INCREMENT) + u64::from(record.partial);
     let latest = |stamp| if stamp == UNSET { 0 } else { now };
     (0..COUNTERS).all(|n| record.loaded[n] <= latest(record.active_window.stamps[n]))
+}
+
+/// Until settings are accepted no window has time, and nothing is counted or logged.
+fn never_enabled(record: &Record) -> bool {
+    let empty = |window: &Window| window.stamps == [UNSET; COUNTERS];
+    (record.timer, record.partial) == (0, 0)
+        && (record.static_below_a, record.active_below_a) == ([0; 3], [0; 3])
+        && empty(&record.static_window)
+        && empty(&record.active_window)
+        && record.debug.stamp == UNSET
 }

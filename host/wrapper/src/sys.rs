@@ -65,6 +65,10 @@ pub struct Record {
     padding: [u8; 1],
     /// Time since the timer's last increment, in ms.
     pub partial: u32,
+    /// By kind: completions below threshold A in the static window.
+    pub static_below_a: [u32; 3],
+    /// The same in the active window.
+    pub active_below_a: [u32; 3],
     more_padding: [u8; 4],
     /// In ms.
     pub clock: u64,
@@ -125,6 +129,15 @@ pub struct ElapsedAnswer {
     pub ended: bool,
 }
 
+/// The enabled completions below threshold A in a window, by kind, each held at 4,294,967,295.
+#[repr(C)]
+#[derive(Clone, Copy, Debug, PartialEq, Eq)]
+pub struct BelowA {
+    pub read: u32,
+    pub write: u32,
+    pub deallocate: u32,
+}
+
 extern "C" {
     pub fn latency_monitor_new(monitor: *mut Record);
     pub fn latency_monitor_configure(monitor: *mut Record, settings: *const u8, length: usize) -> u8;
@@ -132,6 +145,8 @@ extern "C" {
     pub fn latency_monitor_elapsed(monitor: *mut Record, ms: u32) -> ElapsedAnswer;
     pub fn latency_monitor_set_clock(monitor: *mut Record, ms: u64) -> u8;
     pub fn latency_monitor_power_up(monitor: *mut Record) -> u8;
+    pub fn latency_monitor_active_below_a(monitor: *const Record) -> BelowA;
+    pub fn latency_monitor_static_below_a(monitor: *const Record) -> BelowA;
     pub fn latency_monitor_page(monitor: *const Record, page: *mut u8, length: usize) -> u8;
     pub fn latency_monitor_settings_back(monitor: *const Record, settings: *mut u8, length: usize) -> u8;
     pub fn latency_monitor_read_page(reading: *mut Reading, page: *const u8, length: usize) -> u8;
@@ -163,18 +178,20 @@ layout!(Window, 184, 8, { counters: 0, stamps: 48, latencies: 144, units: 168, p
 
 layout!(DebugLog, 16, 8, { stamp: 0, latency: 8, source: 10, units: 12, padding: 13 });
 
-layout!(Record, 512, 8, {
+layout!(Record, 536, 8, {
     settings: 0,
     timer: 12,
     host_set: 14,
     padding: 15,
     partial: 16,
-    more_padding: 20,
-    clock: 24,
-    loaded: 32,
-    debug: 128,
-    static_window: 144,
-    active_window: 328,
+    static_below_a: 20,
+    active_below_a: 32,
+    more_padding: 44,
+    clock: 48,
+    loaded: 56,
+    debug: 152,
+    static_window: 168,
+    active_window: 352,
 });
 
 layout!(LogPage, 400, 8, {
@@ -193,3 +210,5 @@ layout!(Command, 8, 4, { latency: 0, opcode: 4 });
 layout!(CompletionAnswer, 6, 2, { counter: 0, counted: 2, loaded: 3, debug: 4 });
 
 layout!(ElapsedAnswer, 2, 1, { refusal: 0, ended: 1 });
+
+layout!(BelowA, 12, 4, { read: 0, write: 4, deallocate: 8 });

@@ -1,7 +1,10 @@
-//! The wrapper's constants and refusals are the header's.
+//! The wrapper's constants, refusals and layouts are the header's.
+
+use std::mem::offset_of;
 
 use latency_monitor::{
-    offsets, Refusal, COUNTERS, PAGE_LENGTH, READING_LENGTH, RECORD_LENGTH, RECORD_VERSION, SETTINGS_LENGTH,
+    offsets, BelowA, Record, Refusal, COUNTERS, PAGE_LENGTH, READING_LENGTH, RECORD_LENGTH, RECORD_VERSION,
+    SETTINGS_LENGTH,
 };
 
 const HEADER: &str = include_str!("../../../include/latency_monitor.h");
@@ -68,10 +71,28 @@ fn refusals() {
     assert_eq!(listed(), due);
 }
 
+fn assert_held(line: &str) {
+    assert!(HEADER.lines().any(|held| held == line), "{line}");
+}
+
 #[test]
 fn sizes() {
-    for (name, size) in [("latency_monitor", RECORD_LENGTH), ("latency_monitor_reading", READING_LENGTH)] {
-        let held = format!("LATENCY_MONITOR_SIZE({name}, {size});");
-        assert!(HEADER.lines().any(|line| line == held), "{held}");
+    let below_a = size_of::<BelowA>();
+    for (name, size) in [("", RECORD_LENGTH), ("_reading", READING_LENGTH), ("_below_a", below_a)] {
+        assert_held(&format!("LATENCY_MONITOR_SIZE(latency_monitor{name}, {size});"));
     }
+}
+
+#[test]
+fn places() {
+    macro_rules! places {
+        ($type:ident, $name:literal, [$($field:ident),*]) => {
+            $(assert_held(&format!(
+                "LATENCY_MONITOR_AT({}, {}, {});", $name, stringify!($field), offset_of!($type, $field)
+            ));)*
+        };
+    }
+    places!(Record, "latency_monitor", [settings, timer, host_set, partial, static_below_a, active_below_a]);
+    places!(Record, "latency_monitor", [clock, loaded, debug, static_window, active_window]);
+    places!(BelowA, "latency_monitor_below_a", [read, write, deallocate]);
 }

@@ -14,11 +14,13 @@ const ENABLED: usize = 11;
 const TIMER: usize = 12;
 const HOST_SET: usize = 14;
 const PARTIAL: usize = 16;
-const CLOCK: usize = 24;
-const LOADED: usize = 32;
-const DEBUG: usize = 128;
-const STATIC: usize = 144;
-const ACTIVE: usize = 328;
+const STATIC_BELOW_A: usize = 20;
+const ACTIVE_BELOW_A: usize = 32;
+const CLOCK: usize = 48;
+const LOADED: usize = 56;
+const DEBUG: usize = 152;
+const STATIC: usize = 168;
+const ACTIVE: usize = 352;
 
 /// Within a window.
 const STAMPS: usize = 48;
@@ -30,6 +32,8 @@ const DEBUG_SOURCE: usize = 10;
 const DEBUG_UNITS: usize = 12;
 
 const READ: Command = Command { opcode: 0x02, latency: 7_500 };
+/// Below threshold A.
+const WRITE: Command = Command { opcode: 0x01, latency: 300 };
 
 fn settings() -> [u8; SETTINGS_LENGTH] {
     let mut settings = [0; SETTINGS_LENGTH];
@@ -40,15 +44,18 @@ fn settings() -> [u8; SETTINGS_LENGTH] {
     settings
 }
 
-/// Counter 0 counted once in each window, with a debug log, 250 s into the second increment of the active window.
+/// Counter 0 and a Write below A counted once in each window, with a debug log, 250 s into the second increment of the
+/// active window.
 fn monitor() -> Monitor {
     let mut monitor = Monitor::new();
     monitor.configure(&settings()).unwrap();
     monitor.elapsed(300_000).unwrap();
     monitor.completion(READ);
+    monitor.completion(WRITE);
     assert_eq!(monitor.elapsed(300_000), Ok(ElapsedAnswer::Ended));
     monitor.elapsed(300_000).unwrap();
     monitor.completion(READ);
+    monitor.completion(WRITE);
     monitor.elapsed(250_000).unwrap();
     monitor
 }
@@ -93,6 +100,8 @@ fn power_up_keeps_all_but_the_clock() {
     restored.power_up().unwrap();
     assert_eq!((restored.record().clock, restored.record().host_set), (0, false));
     assert_eq!(page(&restored), page(&monitor));
+    assert_eq!(restored.active_below_a(), monitor.active_below_a());
+    assert_eq!(restored.static_below_a(), monitor.static_below_a());
 }
 
 #[test]
@@ -144,12 +153,32 @@ fn without_a_timer_threshold_no_settings_were_accepted() {
 }
 
 #[test]
+fn before_settings_are_accepted_nothing_is_counted() {
+    let used = monitor();
+    let parts = [
+        ("a timer", TIMER, 2),
+        ("a partial increment", PARTIAL, 4),
+        ("static counts below A", STATIC_BELOW_A, 12),
+        ("active counts below A", ACTIVE_BELOW_A, 12),
+        ("a debug log", DEBUG, 16),
+        ("a static window", STATIC, 184),
+        ("an active window", ACTIVE, 184),
+    ];
+    for (what, place, length) in parts {
+        let part = &used.as_bytes()[place..place + length];
+        let damaged = changed(&Monitor::new(), place, part);
+        assert_eq!(damaged.err(), Some(DamagedRecord), "{what}");
+    }
+}
+
+#[test]
 fn the_last_that_calls_leave() {
-    let cases: [(&str, usize, &[u8]); 7] = [
+    let cases: [(&str, usize, &[u8]); 8] = [
         ("mode largest for all", MODE, &[0xFF, 0x0F]),
         ("every trigger", TRIGGER, &[0xFF, 0x0F]),
         ("equal thresholds", THRESHOLDS, &[9; 4]),
         ("a partial of 299,999", PARTIAL, &299_999u32.to_le_bytes()),
+        ("every count below A at its top", STATIC_BELOW_A, &[0xFF; 24]),
         ("a clock of 2^48 - 1", CLOCK, &((1u64 << 48) - 1).to_le_bytes()),
         ("a load just now", LOADED, &550_000u64.to_le_bytes()),
         ("a debug log of counter 11", DEBUG + DEBUG_SOURCE, &[0, 0x08]),
