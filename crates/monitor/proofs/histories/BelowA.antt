@@ -22,7 +22,7 @@ use Rattle.monitor.specs.Report.{countsBelowA}
 use Rattle.monitor.specs.declared.commands.Command.{Command}
 use Rattle.monitor.proofs.commands.Laws.{Sorted, slow, fast, kindless, disabled, sorted}
 use Rattle.monitor.proofs.histories.Bounds.{since-all}
-use Rattle.monitor.proofs.histories.Lists.{All, Some, from-at, from-same}
+use Rattle.monitor.proofs.histories.Lists.{All, Some, and-false, from-at, from-same}
 use Rattle.monitor.proofs.histories.Play.{played-as-facts}
 
 pub below-a-shows-facts : BelowAShowsFacts
@@ -88,10 +88,6 @@ one-more {A} test x xs = by (test x)
 and-true : (a : Bool) → (a && true) ≡ a
 and-true true = refl
 and-true false = refl
-
-and-false : (a : Bool) → (a && false) ≡ false
-and-false true = refl
-and-false false = refl
 
 -- two counters are the same if their buckets and kinds are
 same-counter :

@@ -30,6 +30,7 @@ use Rattle.monitor.proofs.record.Laws.{decide}
 use Rattle.monitor.proofs.histories.Facts.{Good, fine-counted, Here, here, span, into, clock-top, last-load-all}
 use Rattle.monitor.proofs.histories.Facts.{described, fast-within, fast-preceding}
 use Rattle.monitor.proofs.histories.Lists.{All, Some, all-those, from-at, from-same, from-stored, counts-stored}
+use Rattle.monitor.proofs.histories.Lists.{and-false}
 use Rattle.monitor.proofs.histories.Windows.{in-window}
 
 -- the time in the active window, as the record has it
@@ -173,17 +174,17 @@ module _ (past : Past) (c : Command) (kind : ℕ) where
   abbrev fast-joined : ℕ → List Completed
   fast-joined k = filter (fast-within (windowAt past) k) (here-completed ∷ sinceEnabled past)
 
-  abbrev fast-finished : ℕ → List Completed
-  fast-finished k = filter (fast-preceding (windowAt past) k) (here-completed ∷ sinceEnabled past)
+  abbrev fast-static : ℕ → List Completed
+  fast-static k = filter (fast-preceding (windowAt past) k) (here-completed ∷ sinceEnabled past)
 
   -- it is not in the static window
-  finished-before : (k : ℕ) → ofKindBelowA Static past k ≡ fast-finished k
+  static-same : (k : ℕ) → ofKindBelowA Static past k ≡ fast-static k
   unfolding filter ofKindBelowA
-  finished-before k = rw (ne-eqb (windowAt past + 1) (windowAt past) (λ e. omega arith))
+  static-same k = rw (ne-eqb (windowAt past + 1) (windowAt past) (λ e. omega arith))
 
-  static-kept : belowACounts Static past ≡ from 0 3 (λ k. countOf (fast-finished k))
+  static-kept : belowACounts Static past ≡ from 0 3 (λ k. countOf (fast-static k))
   unfolding belowACounts
-  static-kept = λ i. from 0 3 (λ k. countOf (finished-before k i))
+  static-kept = λ i. from 0 3 (λ k. countOf (static-same k i))
 
   module _ (below : Bool) (e : isBelowA (inForce past) c ≡ below) where
     -- the test of this one
@@ -203,12 +204,8 @@ module _ (past : Past) (c : Command) (kind : ℕ) where
   unfolding belowACounts ofKindBelowA filter
   slow-kept reached = λ i. from 0 3 (λ k. countOf (by k (eqb kind k) refl i))
     where
-      none-pass : (b : Bool) → (b && false) ≡ false
-      none-pass true = refl
-      none-pass false = refl
-
       by : (k : ℕ) (b : Bool) → eqb kind k ≡ b → ofKindBelowA Active past k ≡ fast-joined k
-      by k b q = rw (here-passes false reached k b q, none-pass b)
+      by k b q = rw (here-passes false reached k b q, and-false b)
 
   fast-more :
       kind < 3 →

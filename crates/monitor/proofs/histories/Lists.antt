@@ -1,7 +1,7 @@
 -- Laws of tables with an entry for each number, and of lists with a fact or a test of each entry.
 use Prim.Native.Nat.{ℕ, zero, suc, _+_, _≤_, _<_}
 use mathlib.Core.Path.{_≡_, refl, sym, ap, _∙_}
-use mathlib.Core.Bool.{Bool, true, false, cond}
+use mathlib.Core.Bool.{Bool, true, false, cond, _&&_}
 use mathlib.Core.List.{List, [], _∷_}
 use mathlib.Core.Option.{Option, none, some}
 use native.Mathlib.Nat.{zero-add, add-zero, not-suc-le-zero}
@@ -70,6 +70,10 @@ module _ {A : Type 0} where
   unfolding from
   length-from i zero f = refl
   length-from i (suc n) f = ap suc (length-from (suc i) n f)
+
+pub and-false : (a : Bool) → (a && false) ≡ false
+and-false true = refl
+and-false false = refl
 
 -- a fact of what is there
 abbrev pub Some : {A : Type 0} → (A → Type 0) → Option A → Type 0
