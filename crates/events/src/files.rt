@@ -45,7 +45,8 @@ pub fn run(m: Monitor, s: &[u8]) -> Stop
         if records::is_completion(r) {
             let c = records::command(r);
             let settings = monitor.settings;
-            // Most completions have no counter, and change the counts below threshold A at most: they are spared the call.
+            // Most completions have no counter. They change the counts below threshold A at most, and are spared the
+            // call.
             if c.counter(settings) == NOT_COUNTED {
                 let active = monitor.active_below_a;
                 let counts = c.below_a(settings, active);

@@ -1,7 +1,7 @@
 // The firmware's boundary: the record is lent for each call, in C's calling convention. Each function calls the
 // monitor's rule on the record, stores the record that comes back, and gives the answer as numbers;
-// include/latency_monitor.h declares them. `page`, `settings_back` and the counts below threshold A only read the record;
-// `read_page` has no part in it, and fills the fields of a page that are lent.
+// include/latency_monitor.h declares them. `page`, `settings_back` and the counts below threshold A only read the
+// record; `read_page` has no part in it, and fills the fields of a page that are lent.
 mod answers;
 mod reading;
 

@@ -14,7 +14,7 @@ use Rattle.monitor.specs.declared.record.Monitor.{Monitor}
 use Rattle.monitor.specs.Answers.{notCounted}
 use Rattle.monitor.specs.Commands.{kindOf, counterOf, belowAOf, counterNumber, kindNumber}
 use Rattle.monitor.specs.Counting.{onceMoreAt, countedBelowA}
-use Rattle.monitor.specs.Record.{afterCompletion, completionAnswer}
+use Rattle.monitor.specs.Record.{withBelowA, afterCompletion, completionAnswer}
 use Rattle.monitor.proofs.commands.Laws.{counter-below, kind-few}
 
 module _ (s : Settings) (c : Command) (n : ℕ) (number : n ≡ counterNumber (counterOf s c)) where
@@ -48,22 +48,6 @@ counted-kind c counts k number = by (kindOf c) refl number
     by (some j) is e = rw (e, lt-ltb j 3 (kind-few c j is))
 
 -- a completion without a counter, by the counts below threshold A that it leaves
-abbrev pub withBelowA : Monitor → List ℕ → Monitor
-withBelowA m counts =
-    record {
-      settings = m .settings;
-      timer = m .timer;
-      «host_set» = m .«host_set»;
-      partial = m .partial;
-      clock = m .clock;
-      loaded = m .loaded;
-      debug = m .debug;
-      «active_below_a» = counts;
-      «static_below_a» = m .«static_below_a»;
-      «static_window» = m .«static_window»;
-      «active_window» = m .«active_window»;
-    }
-
 pub uncounted :
     (m : Monitor) (c : Command) (counts : List ℕ) →
     counterOf (m .settings) c ≡ none →

@@ -16,8 +16,8 @@ use Rattle.monitor.specs.Commands.{kindOf, highestBelow, bucketOf, count
 use Rattle.monitor.specs.Counting.{loads, countedIn, triggers}
 use Rattle.monitor.specs.Edges.{enabledWith, read, usual, elapsedAnswers, bucket, measures, readAnswer, Holds}
 use Rattle.monitor.specs.Edges.{EdgesHold}
-use Rattle.monitor.specs.Record.{noLoads, noneBelowA, newMonitor, afterSettings, afterCompletion, completionAnswer}
-use Rattle.monitor.specs.Record.{afterElapsed, elapsedAnswer}
+use Rattle.monitor.specs.Record.{noLoads, noneBelowA, newMonitor, afterSettings, afterCompletion}
+use Rattle.monitor.specs.Record.{completionAnswer, afterElapsed, elapsedAnswer}
 use Rattle.monitor.specs.Refusals.{settingsRefusal, fieldRefusal, elapsedRefusal}
 use Rattle.monitor.specs.Settings.{decoded, encoded}
 use Rattle.monitor.specs.Timer.{ticked}

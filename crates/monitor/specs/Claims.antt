@@ -13,7 +13,8 @@ use Rattle.logpage.specs.declared.Window.{Window}
 use Rattle.monitor.specs.Facts.{inForce, clockAt, hostSetAt, timerThreshold, enabledTime, windowAt, timerAt}
 use Rattle.monitor.specs.Facts.{Counted, active, static, countOf, lastLoad, stampOf, latencyOf, unitsOf}
 use Rattle.monitor.specs.Facts.{windowFrom, debugAt, factsOf, sum, ofKind, belowACounts}
-use Rattle.monitor.specs.History.{elapsed, History, Past, OfBytes, Every, settingsIn, found, latest, pastOf, play}
+use Rattle.monitor.specs.History.{elapsed, History, Past, OfBytes, All, settingsIn, found, latest, pastOf, play}
+use Rattle.monitor.specs.Counting.{countTop}
 use Rattle.monitor.specs.Answers.{ended, unlessRefused}
 use Rattle.monitor.specs.Record.{untouchedIf, elapsedAnswer}
 use Rattle.monitor.specs.declared.record.Monitor.{Monitor}
@@ -124,5 +125,5 @@ abbrev pub FiveCountsAddUp : Type 0
 FiveCountsAddUp =
     (h : History) (w : WindowChoice) (k : ℕ) →
     k < 3 →
-    Every (λ count. count < 4294967295) (fiveCounts w (play h) k) →
+    All (λ count. count < countTop) (fiveCounts w (play h) k) →
     sum (fiveCounts w (play h) k) ≡ length (ofKind w (pastOf h) k)

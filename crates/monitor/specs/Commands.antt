@@ -1,4 +1,4 @@
--- A completion: the counter that it counts for, and its latency in ms.
+-- A completion: the counter that it counts for, whether it is below threshold A, and its latency in ms.
 use Prim.Native.Nat.{ℕ, zero, suc, _+_, _*_, _/_, min}
 use mathlib.Core.Bool.{Bool, cond, not, _&&_}
 use mathlib.Core.List.{List}

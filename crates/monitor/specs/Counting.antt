@@ -1,4 +1,4 @@
--- A counted completion: its counter, its counter's stamp, and the debug log. And one below threshold A: its kind's count.
+-- A counted completion: its counter, its counter's stamp, and the debug log. One below threshold A: its kind's count.
 use mathlib.Core.Bool.{Bool, cond, _&&_, _||_}
 use mathlib.Core.List.{List}
 use mathlib.Core.Option.{Option, none, some}
@@ -13,9 +13,16 @@ use Rattle.logpage.specs.declared.Window.{Window}
 abbrev pub bit : ℕ → ℕ → Bool
 bit mask n = eqb (mask / 2 ^ n % 2) 1
 
--- 01, A completion: one more, up to the counter's top
+-- 01, A completion: a count, held at its top
+abbrev pub countTop : ℕ
+countTop = 4294967295
+
+abbrev pub held : ℕ → ℕ
+held count = min count countTop
+
+-- one more
 abbrev pub onceMore : ℕ → ℕ
-onceMore counter = min (counter + 1) 4294967295
+onceMore counter = held (counter + 1)
 
 -- counters after one more for counter n
 abbrev pub onceMoreAt : List ℕ → ℕ → List ℕ

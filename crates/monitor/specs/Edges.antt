@@ -11,7 +11,7 @@ use Rattle.logpage.specs.declared.page.LogPage.{LogPage}
 use Rattle.monitor.specs.declared.commands.Command.{Command}
 use Rattle.monitor.specs.declared.record.Monitor.{Monitor}
 use Rattle.monitor.specs.Answers.{CallAnswer, notCounted, counted, ended}
-use Rattle.monitor.specs.History.{Every}
+use Rattle.monitor.specs.History.{All}
 use Rattle.monitor.specs.Settings.{encoded}
 use Rattle.monitor.specs.Record.{newMonitor, afterSettings, afterCompletion, completionAnswer, afterElapsed}
 use Rattle.monitor.specs.Record.{elapsedAnswer}
@@ -88,4 +88,4 @@ edges =
 
 -- Every row of the table holds.
 abbrev pub EdgesHold : Type 0
-EdgesHold = Every Holds edges
+EdgesHold = All Holds edges

@@ -1,4 +1,5 @@
--- 01, The facts of a history: all of this file. Each fact is asked at a place, of what was done before it.
+-- 01, The facts of a history: all of this file but what is marked 02. Each fact is asked at a place, of what was done
+-- before it.
 use mathlib.Core.Bool.{Bool, false, cond, _&&_}
 use mathlib.Core.List.{List, [], _∷_}
 use mathlib.Core.Option.{Option, none, some}
@@ -14,7 +15,7 @@ use Rattle.monitor.specs.declared.commands.Command.{Command}
 use Rattle.monitor.specs.declared.report.WindowChoice.{WindowChoice}
 use Rattle.monitor.specs.declared.report.WindowChoice.the-variants.{Active, Static}
 use Rattle.monitor.specs.Commands.{kindOf, isBelowA, counterOf, millisecondsOf}
-use Rattle.monitor.specs.Counting.{bit, debugLog}
+use Rattle.monitor.specs.Counting.{bit, held, debugLog}
 use Rattle.monitor.specs.History.{Effect, Past, ClockSetting, settingsIn, completionIn, elapsedIn, clockIn, found}
 use Rattle.monitor.specs.History.{latest, since, onlyIf, andThen}
 use Rattle.monitor.specs.Settings.{decoded, discard}
@@ -80,11 +81,12 @@ pub record Completed : Type 0 where
   pub command : Command
   pub before : Past
 
+abbrev pub completedIf : Bool → Option ℕ → Command → Past → Option Completed
+completedIf enabled kind c past =
+    found none (λ k. onlyIf enabled (record { kind = k; command = c; before = past })) kind
+
 abbrev pub completedAt : Effect → Past → Option Completed
-completedAt e past =
-    found none
-    (λ c. found none (λ k. onlyIf (inForce past .enabled) (record { kind = k; command = c; before = past })) (kindOf c))
-    (completionIn e)
+completedAt e past = found none (λ c. completedIf (inForce past .enabled) (kindOf c) c past) (completionIn e)
 
 -- all of them since the latest settings that enable, the newest first; those settings are the latest such ones at each
 -- of their places too, so the numbers of windows can be compared
@@ -124,22 +126,19 @@ abbrev pub isIn : WindowChoice → Past → Past → Bool
 isIn Active past place = eqb (windowAt place) (windowAt past)
 isIn Static past place = eqb (windowAt place + 1) (windowAt past)
 
--- one counter's completions in either window
-abbrev pub activeFor : Past → ℕ → Counted → Bool
-activeFor past n x = isIn Active past (x .before) && eqb (x .counter) n
-
-abbrev pub staticFor : Past → ℕ → Counted → Bool
-staticFor past n x = isIn Static past (x .before) && eqb (x .counter) n
+-- one counter's completions in a window
+abbrev pub counterIn : WindowChoice → Past → ℕ → Counted → Bool
+counterIn w past n x = isIn w past (x .before) && eqb (x .counter) n
 
 unfoldable pub active : Past → ℕ → List Counted
-active past n = filter (activeFor past n) (countedSince past)
+active past n = filter (counterIn Active past n) (countedSince past)
 
 unfoldable pub static : Past → ℕ → List Counted
-static past n = filter (staticFor past n) (countedSince past)
+static past n = filter (counterIn Static past n) (countedSince past)
 
 -- the count: how many there are, up to the counter's top
 unfoldable pub countOf : {A : Type 0} → List A → ℕ
-countOf xs = min (length xs) 4294967295
+countOf xs = held (length xs)
 
 -- 02, Ticket 2: all enabled completions of a kind in a window, whatever their latency, and those below threshold A
 abbrev pub kindIn : WindowChoice → Past → ℕ → Completed → Bool

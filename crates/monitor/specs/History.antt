@@ -177,10 +177,10 @@ since start f [] = []
 since start f (e ∷ past) = unlessFound (start e) (andThen (f e past) (since start f past))
 
 -- a fact of each entry of a list
-abbrev pub Every : {A : Type 0} → (A → Type 0) → List A → Type 0
-Every P [] = Unit {0}
-Every P (x ∷ xs) = P x × Every P xs
+abbrev pub All : {A : Type 0} → (A → Type 0) → List A → Type 0
+All P [] = Unit {0}
+All P (x ∷ xs) = P x × All P xs
 
 -- the settings of a history are bytes
 abbrev pub OfBytes : History → Type 0
-OfBytes h = Every (λ c. Bytes (found [] (λ s. s) (settingsIn (asked c)))) h
+OfBytes h = All (λ c. Bytes (found [] (λ s. s) (settingsIn (asked c)))) h

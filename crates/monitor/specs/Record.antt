@@ -105,10 +105,9 @@ afterCounted m n ms =
       debug = cond (triggersAt m n) (debugLog n (m .clock) ms (m .«host_set»)) (m .debug);
     }
 
--- 02, Ticket 2: the record after a completion without a counter. If it was below threshold A its kind's count grows, and
--- nothing else changes
-abbrev afterNotCounted : Monitor → Option ℕ → Monitor
-afterNotCounted m kind =
+-- 02, Ticket 2: the record with other counts below threshold A in the active window
+abbrev pub withBelowA : Monitor → List ℕ → Monitor
+withBelowA m counts =
     record {
       settings = m .settings;
       clock = m .clock;
@@ -117,16 +116,16 @@ afterNotCounted m kind =
       partial = m .partial;
       «active_window» = m .«active_window»;
       loaded = m .loaded;
-      «active_below_a» = countedBelowA kind (m .«active_below_a»);
+      «active_below_a» = counts;
       «static_window» = m .«static_window»;
       «static_below_a» = m .«static_below_a»;
       debug = m .debug;
     }
 
--- by the counter, or the kind below threshold A
+-- by the counter; without one, by the kind below threshold A, if it is below
 abbrev onCounter : Option ℕ → Option ℕ → Monitor → ℕ → Monitor
 onCounter (some n) kind m ms = afterCounted m n ms
-onCounter none kind m ms = afterNotCounted m kind
+onCounter none kind m ms = withBelowA m (countedBelowA kind (m .«active_below_a»))
 
 -- 01, A completion: what it does; nothing turns it away
 unfoldable pub afterCompletion : Monitor → Command → Monitor

@@ -1,4 +1,4 @@
-// A completed command: the counter that it counts for, and its latency in ms.
+// A completed command: the counter that it counts for, whether it is below threshold A, and its latency in ms.
 ghost use mathlib.Core.Path.{_≡_};
 ghost use mathlib.Core.Option.{some};
 ghost use Prim.Native.Nat.{_<_};

@@ -1,4 +1,5 @@
-// A counted completion: its counter, its counter's latency stamp, and the debug log.
+// A counted completion: its counter, its counter's latency stamp, and the debug log. One below threshold A: its kind's
+// count.
 ghost use mathlib.Core.Path.{_≡_};
 ghost use mathlib.Core.Bool.{cond};
 ghost use Prim.Native.Nat.{_-_, _^_, _<_};
@@ -54,7 +55,7 @@ pub(crate) fn counted_at(mut counters: [u32; 12], n: u16) -> [u32; 12]
     counters
 }
 
-// The same where three are written and not twelve: with the top tested first, that takes less.
+// As `counted_if`, with a branch on the top: for three counts that takes less, for twelve more.
 fn counted_once(count: u32, here: bool) -> u32
     ensures { λ r. ⌜ r ≡ cond here (onceMore count) count ⌝ }
 {

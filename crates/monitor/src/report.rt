@@ -2,11 +2,10 @@
 ghost use mathlib.Core.Path.{_≡_};
 ghost use lib.ListN.{length};
 ghost use Rattle.monitor.specs.Answers.{saysAnswer};
-ghost use Rattle.monitor.specs.History.{History, OfBytes, play};
+ghost use Rattle.monitor.specs.Facts.{belowACounts};
+ghost use Rattle.monitor.specs.History.{History, OfBytes, pastOf, play};
 ghost use Rattle.monitor.specs.Report.{afterPage, pageAnswer, afterSettingsBack, settingsBackAnswer};
 ghost use Rattle.monitor.specs.Report.{countsBelowA};
-ghost use Rattle.monitor.specs.History.{pastOf};
-ghost use Rattle.monitor.specs.Facts.{belowACounts};
 ghost use Rattle.monitor.specs.Claims.{pageByFacts, settingsByFacts};
 use crate::record::Monitor;
 use crate::refusals;

@@ -8,12 +8,11 @@ use native.Mathlib.Numerals.{add-one}
 use native.Mathlib.Omega.{arith}
 use borrow.Author.Tests.{eq-eqb, ne-eqb}
 use lib.ListN.{length, take, drop, length-take, length-drop}
-use lib.Seq.{take-all, drop-drop}
+use lib.Seq.{drop-drop}
 use Rattle.monitor.specs.declared.record.Monitor.{Monitor}
 use Rattle.monitor.specs.Answers.{refused, done, unlessRefused}
-use Rattle.monitor.specs.History as calls
 use Rattle.monitor.specs.History.{Call, settings, completion, elapsed, clock, powerUp, page, settingsBack, History}
-use Rattle.monitor.specs.History.{after, playFrom, refusalOf, found, andThen, orElse}
+use Rattle.monitor.specs.History.{belowA, after, playFrom, refusalOf, found, andThen, orElse}
 use Rattle.monitor.specs.Record.{afterSettings, afterElapsed, afterClock}
 use Rattle.events.specs.Records.{endRefusal, callOf, recordRefusal, afterRecord, recordAt, wholeRecords}
 use Rattle.events.specs.Records.{callsBefore, historyOf}
@@ -29,7 +28,7 @@ untouched-by (clock value) m n e = rw e
 untouched-by powerUp m n e = cc
 untouched-by (page k) m n e = refl
 untouched-by (settingsBack k) m n e = refl
-untouched-by (calls.belowA w) m n e = refl
+untouched-by (belowA w) m n e = refl
 
 pub untouched : (m : Monitor) (r : List ℕ) (n : ℕ) → recordRefusal r ≡ some n → afterRecord m r ≡ m
 unfolding recordRefusal afterRecord playFrom

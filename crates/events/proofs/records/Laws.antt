@@ -18,7 +18,7 @@ use types.Run.{OneOf}
 use Rattle.endian.specs.Bytes.{anySet}
 use Rattle.endian.specs.Loads.{number}
 use Rattle.endian.proofs.Numbers.{below, both-clear, first-set}
-use Rattle.monitor.proofs.Counters.{no-counter, withBelowA, uncounted}
+use Rattle.monitor.proofs.Counters.{no-counter, uncounted}
 use Rattle.monitor.proofs.answers.ElapsedAnswer.{the-type}
 use Rattle.monitor.specs.declared.answers.ElapsedAnswer.{ElapsedAnswer}
 use Rattle.monitor.specs.declared.answers.ElapsedAnswer.the-variants as time
@@ -31,7 +31,7 @@ use Rattle.monitor.specs.Counting.{countedBelowA}
 use Rattle.monitor.specs.History as calls
 use Rattle.monitor.specs.History.{Call, settings, completion, elapsed, clock, powerUp, page, settingsBack}
 use Rattle.monitor.specs.History.{after, answerOf, playFrom, refusalOf, found}
-use Rattle.monitor.specs.Record.{settingsAnswer, completionAnswer, elapsedAnswer, clockAnswer}
+use Rattle.monitor.specs.Record.{withBelowA, settingsAnswer, completionAnswer, elapsedAnswer, clockAnswer}
 use Rattle.monitor.specs.Refusals.{settingsRefusal, elapsedRefusal, clockRefusal, pageRefusal, settingsBackRefusal}
 use Rattle.monitor.specs.Report.{pageAnswer, settingsBackAnswer}
 use Rattle.events.specs.Records.{recordKind, part, unnamed, settingsBytes, commandOf, elapsedOf, clockOf, callOfKind}

@@ -169,10 +169,12 @@ sorted s c = by (s .enabled) refl (reachesA (s .thresholds) c) refl (kindOf c) r
     by false off true a kind k = disabled off (rw off) (rw a)
     by false off false a kind k = disabled off (rw off) (rw (a, off))
     by true on false a none k = kindless k (rw (on, a)) (rw (on, a) k)
-    by true on true a none k = kindless k (rw (on, a, k) (at-no-kind (highestBelow (s .thresholds) (c .latency) 4))) (rw (on, a))
+    by true on true a none k =
+        kindless k (rw (on, a, k) (at-no-kind (highestBelow (s .thresholds) (c .latency) 4))) (rw (on, a))
     by true on false a (some kind) k =
         fast kind (kind-few c kind k) on k (rw (on, a)) (rw (on, a)) (rw (on, a) k)
-    by true on true a (some kind) k = bucketed (highestBelow (s .thresholds) (c .latency) 4) refl (has-bucket (s .thresholds) (c .latency) a 3)
+    by true on true a (some kind) k =
+        bucketed (highestBelow (s .thresholds) (c .latency) 4) refl (has-bucket (s .thresholds) (c .latency) a 3)
       where
         bucketed : (o : Option ℕ) → highestBelow (s .thresholds) (c .latency) 4 ≡ o → Found 4 o → Sorted s c
         bucketed o e (found-at b few) = slow kind b (kind-few c kind k) few on k (rw (on, a)) (rw (on, a, e, k))
@@ -187,6 +189,9 @@ fast-uncounted s c below = by (sorted s c)
     by (kindless kind e e') = e
     by (disabled off e e') = e
 
-pub below-a-kind : (s : Settings) (c : Command) (below : Bool) → isBelowA s c ≡ below → belowAOf s c ≡ cond below (kindOf c) none
+pub below-a-kind :
+    (s : Settings) (c : Command) (below : Bool) →
+    isBelowA s c ≡ below →
+    belowAOf s c ≡ cond below (kindOf c) none
 unfolding belowAOf
 below-a-kind s c below e = rw e

@@ -1,7 +1,7 @@
 -- The counts below threshold A after a history: the call returns those of the facts, and a kind's five counts add up.
 use Prim.Native.Nat.{ℕ, zero, suc, _+_, _*_, _≤_, _<_}
 use mathlib.Core.Path.{_≡_, refl, sym, ap, subst, _∙_}
-use mathlib.Core.Bool.{Bool, true, false, cond, not, _&&_}
+use mathlib.Core.Bool.{Bool, true, false, cond, _&&_, and-true, and-false}
 use mathlib.Core.List.{List, [], _∷_}
 use mathlib.Core.Option.{Option, none, some}
 use native.Mathlib.Nat.{zero-add}
@@ -12,17 +12,17 @@ use borrow.Author.Tests.{eq-eqb, ne-eqb, eqb-true, eqb-false}
 use Rattle.logpage.specs.Fields.{from}
 use Rattle.monitor.specs.declared.report.WindowChoice.{WindowChoice}
 use Rattle.monitor.specs.declared.report.WindowChoice.the-variants.{Active, Static}
-use Rattle.monitor.specs.Commands.{kindOf, counterOf}
+use Rattle.monitor.specs.Commands.{kindOf}
 use Rattle.monitor.specs.Claims.{recordOf, windowIn, BelowAShowsFacts, fiveCounts, FiveCountsAddUp}
-use Rattle.monitor.specs.Facts.{inForce, enablingIn, sum, Completed, completedAt, sinceEnabled, Counted, counted}
-use Rattle.monitor.specs.Facts.{countedSince, filter, filterMap, isIn, activeFor, staticFor, active, static, countOf}
-use Rattle.monitor.specs.Facts.{kindIn, isFast, ofKind, ofKindBelowA, belowACounts}
-use Rattle.monitor.specs.History.{Effect, completionIn, History, Past, Every, pastOf, play, found, onlyIf, andThen}
+use Rattle.monitor.specs.Facts.{inForce, enablingIn, sum, Completed, completedIf, completedAt}
+use Rattle.monitor.specs.Facts.{sinceEnabled, Counted, counted, countedSince, filter, filterMap, isIn}
+use Rattle.monitor.specs.Facts.{counterIn, active, static, countOf, isFast, ofKind, ofKindBelowA, belowACounts}
+use Rattle.monitor.specs.History.{Effect, completionIn, Past, pastOf, play, found, andThen}
 use Rattle.monitor.specs.Report.{countsBelowA}
 use Rattle.monitor.specs.declared.commands.Command.{Command}
 use Rattle.monitor.proofs.commands.Laws.{Sorted, slow, fast, kindless, disabled, sorted}
 use Rattle.monitor.proofs.histories.Bounds.{since-all}
-use Rattle.monitor.proofs.histories.Lists.{All, Some, and-false, from-at, from-same}
+use Rattle.monitor.proofs.histories.Lists.{All, Some, from-at, from-same}
 use Rattle.monitor.proofs.histories.Play.{played-as-facts}
 
 pub below-a-shows-facts : BelowAShowsFacts
@@ -46,27 +46,23 @@ data Place (x : Completed) : Type 0 where
 abbrev Placed : Completed → Type 0
 Placed x = (x .kind < 3) × Place x
 
--- a command at a place, if the monitor is enabled there
-abbrev here : Past → Bool → Command → ℕ → Option Completed
-here past on c k = onlyIf on (record { kind = k; command = c; before = past })
-
 placed : (e : Effect) (past : Past) → Some Placed (completedAt e past)
 placed e past = by (completionIn e)
   where
-    none-here : (c : Command) (o : Option ℕ) → Some Placed (found none (here past false c) o)
+    none-here : (c : Command) (o : Option ℕ) → Some Placed (completedIf false o c past)
     none-here c none = tt
     none-here c (some k) = tt
 
     as-sorted :
         (c : Command) →
         Sorted (inForce past) c →
-        Some Placed (found none (here past (inForce past .enabled) c) (kindOf c))
+        Some Placed (completedIf (inForce past .enabled) (kindOf c) c past)
     as-sorted c (slow k b few low on kind reached e) = rw (kind, on) (few, in-bucket b low reached (rw e))
     as-sorted c (fast k few on kind below e e') = rw (kind, on) (few, below-a below (rw e))
     as-sorted c (kindless kind e e') = rw kind tt
     as-sorted c (disabled off e e') = rw off (none-here c (kindOf c))
 
-    by : (o : Option Command) → Some Placed (found none (λ c. found none (here past (inForce past .enabled) c) (kindOf c)) o)
+    by : (o : Option Command) → Some Placed (found none (λ c. completedIf (inForce past .enabled) (kindOf c) c past) o)
     by none = tt
     by (some c) = as-sorted c (sorted (inForce past) c)
 
@@ -85,10 +81,6 @@ one-more {A} test x xs = by (test x)
     by true = omega arith
     by false = omega arith
 
-and-true : (a : Bool) → (a && true) ≡ a
-and-true true = refl
-and-true false = refl
-
 -- two counters are the same if their buckets and kinds are
 same-counter :
     (b kind j k : ℕ) →
@@ -104,7 +96,8 @@ same-counter b kind j k few low = by (eqb b j) refl (eqb kind k) refl
         eqb kind k ≡ q →
         eqb (3 * b + kind) (3 * j + k) ≡ (p && q)
     by true e true f = eq-eqb (3 * b + kind) (3 * j + k) (omega (arith, eqb-true b j e, eqb-true kind k f))
-    by true e false f = ne-eqb _ _ (λ (same : 3 * b + kind ≡ 3 * j + k). eqb-false kind k f (omega (arith, eqb-true b j e)))
+    by true e false f =
+        ne-eqb _ _ (λ (same : 3 * b + kind ≡ 3 * j + k). eqb-false kind k f (omega (arith, eqb-true b j e)))
     by false e q f = ne-eqb _ _ (λ (same : 3 * b + kind ≡ 3 * j + k). eqb-false b j e (omega arith))
 
 -- a counter's bucket is one of four
@@ -186,7 +179,7 @@ entry size f k h = rw (zero-add k) at (from-at 0 size f k 0 h)
 
 -- the five counts of the record that the facts describe
 abbrev slow-in : WindowChoice → Past → ℕ → List Counted
-slow-in w past n = filter (λ y. isIn w past (y .before) && eqb (y .counter) n) (countedSince past)
+slow-in w past n = filter (counterIn w past n) (countedSince past)
 
 abbrev five : WindowChoice → Past → ℕ → List ℕ
 five w past k = countOf (ofKindBelowA w past k) ∷ from 0 4 (λ b. countOf (slow-in w past (3 * b + k)))

@@ -15,13 +15,12 @@ use Rattle.endian.proofs.Layouts.{byte-at}
 use Rattle.monitor.specs.declared.commands.Command.{Command}
 use Rattle.monitor.specs.Commands.{kindOf, counterOf, millisecondsOf}
 use Rattle.monitor.specs.Facts.{inForce, sum, enablingIn, enablingIn, timerThreshold, enabledTime, whileEnabled}
-use Rattle.monitor.specs.Facts.{windowAt, timerAt, Counted, counted, countedAt, filter, countOf, lastLoad, stampOf}
+use Rattle.monitor.specs.Facts.{windowAt, timerAt, Counted, counted, countedAt, filter, countOf, lastLoad}
 use Rattle.monitor.specs.Facts.{latencyOf, triggered, discardIn, orEarliest, earliest, logOf, debugAt, active}
-use Rattle.monitor.specs.Facts.{static}
+use Rattle.monitor.specs.Facts.{static, stampOf, completedIf}
 use Rattle.monitor.specs.Facts.{windowFrom, factsOf}
-use Rattle.monitor.specs.History as calls
 use Rattle.monitor.specs.History.{asked, Call, settings, completion, elapsed, clock, powerUp, page, settingsBack}
-use Rattle.monitor.specs.History.{unlessFound, onlyIf}
+use Rattle.monitor.specs.History.{belowA, unlessFound, onlyIf}
 use Rattle.monitor.specs.History.{History, OfBytes, Effect, configured, completed, passed}
 use Rattle.monitor.specs.History.{clockSet, poweredUp, nothing, ifAccepted, effectOf, Past, pastOf, settingsIn}
 use Rattle.monitor.specs.History.{completionIn, found, orElse, latest, andThen, since}
@@ -115,7 +114,7 @@ sound-call (clock value) b = none-in (clockRefusal value) (clockSet value) tt
 sound-call powerUp b = tt
 sound-call (page k) b = none-in (pageRefusal k) nothing tt
 sound-call (settingsBack k) b = none-in (settingsBackRefusal k) nothing tt
-sound-call (calls.belowA w) b = tt
+sound-call (belowA w) b = tt
 
 pub sound-past : (h : History) → OfBytes h → SoundPast (pastOf h)
 sound-past [] b = tt
@@ -221,14 +220,15 @@ few e past = by (completionIn e)
     named c none q = tt
     named c (some n) q = counter-below (inForce past) c n q
 
-    of-kind : (c : Command) (k : Option ℕ) (on : Bool) → Some OfTwelve (found none counted (found none (λ j. onlyIf on (record { kind = j; command = c; before = past })) k))
+    of-kind : (c : Command) (k : Option ℕ) (on : Bool) → Some OfTwelve (found none counted (completedIf on k c past))
     of-kind c none on = tt
     of-kind c (some k) false = tt
     of-kind c (some k) true = named c (counterOf (inForce past) c) refl
 
     by :
         (o : Option Command) →
-        Some OfTwelve (found none counted (found none (λ c. found none (λ k. onlyIf (inForce past .enabled) (record { kind = k; command = c; before = past })) (kindOf c)) o))
+        Some OfTwelve
+        (found none counted (found none (λ c. completedIf (inForce past .enabled) (kindOf c) c past) o))
     by none = tt
     by (some c) = of-kind c (kindOf c) (inForce past .enabled)
 

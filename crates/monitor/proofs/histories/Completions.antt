@@ -1,7 +1,7 @@
 -- A completion makes of the record that the facts describe the one that they describe after it.
 use Prim.Native.Nat.{ℕ, _+_, _-_, _*_, _%_, _<_}
 use mathlib.Core.Path.{_≡_, refl, sym, ap, _∙_}
-use mathlib.Core.Bool.{Bool, true, false, cond, _&&_}
+use mathlib.Core.Bool.{Bool, true, false, cond, _&&_, and-false}
 use mathlib.Core.List.{List, _∷_}
 use mathlib.Core.Option.{Option, none, some}
 use native.Mathlib.Nat.{zero-add}
@@ -14,14 +14,15 @@ use Rattle.monitor.specs.declared.commands.Command.{Command}
 use Rattle.monitor.specs.declared.record.Monitor.{Monitor}
 use Rattle.monitor.specs.declared.report.WindowChoice.the-variants.{Active, Static}
 use Rattle.monitor.specs.Commands.{kindOf, isBelowA, counterOf, belowAOf, millisecondsOf}
-use Rattle.monitor.specs.Counting.{bit, onceMoreAt, countedBelowA, loads, triggers, debugLog}
+use Rattle.monitor.specs.Counting.{bit, onceMoreAt, loads, triggers, debugLog}
 use Rattle.monitor.specs.Claims.{loadedOf, recordOf}
 use Rattle.monitor.specs.Facts.{inForce, clockAt, hostSetAt, timerThreshold, enabledTime, windowAt, timerAt}
-use Rattle.monitor.specs.Facts.{Completed, completedAt, sinceEnabled, Counted, counted, countedAt, countedSince}
-use Rattle.monitor.specs.Facts.{filter, filterMap, activeFor, staticFor, active, static, countOf, ofKindBelowA, belowACounts}
+use Rattle.monitor.specs.Facts.{Completed, completedIf, completedAt, sinceEnabled, Counted, counted}
+use Rattle.monitor.specs.Facts.{countedAt, countedSince, filter, filterMap, counterIn, active, static, countOf}
+use Rattle.monitor.specs.Facts.{ofKindBelowA, belowACounts}
 use Rattle.monitor.specs.Facts.{loadsAfter, orLoad, lastLoad, stampOf, latencyOf, windowFrom}
 use Rattle.monitor.specs.Facts.{discardIn, triggered, orEarliest, earliest, logOf, debugAt}
-use Rattle.monitor.specs.History.{completed, Past, found, onlyIf, andThen, latest, since}
+use Rattle.monitor.specs.History.{completed, Past, found, andThen, latest, since}
 use Rattle.monitor.specs.Record.{afterCompletion}
 use Rattle.monitor.specs.Timer.{inWindow}
 use Rattle.monitor.proofs.commands.Laws.{Sorted, slow, fast, kindless, disabled, sorted}
@@ -30,7 +31,6 @@ use Rattle.monitor.proofs.record.Laws.{decide}
 use Rattle.monitor.proofs.histories.Facts.{Good, fine-counted, Here, here, span, into, clock-top, last-load-all}
 use Rattle.monitor.proofs.histories.Facts.{described, fast-within, fast-preceding}
 use Rattle.monitor.proofs.histories.Lists.{All, Some, all-those, from-at, from-same, from-stored, counts-stored}
-use Rattle.monitor.proofs.histories.Lists.{and-false}
 use Rattle.monitor.proofs.histories.Windows.{in-window}
 
 -- the time in the active window, as the record has it
@@ -53,7 +53,7 @@ module _ (past : Past) (c : Command) (n : ℕ) where
 
   -- the completions of counter k in the active window, and this one
   abbrev joined : ℕ → List Counted
-  joined k = filter (activeFor past k) (here-counted ∷ countedSince past)
+  joined k = filter (counterIn Active past k) (here-counted ∷ countedSince past)
 
   abbrev mine : List Counted
   mine = active past n
@@ -133,8 +133,8 @@ module _ (past : Past) (c : Command) (n : ℕ) where
       by none k = refl
       by (some y) k = rw (ne-eqb (clockAt (y .before)) unset (λ e. omega (arith, clock-top (y .before))), ← k)
 
-  -- the last finished window does not take it in
-  pub left-out : (k : ℕ) → filter (staticFor past k) (here-counted ∷ countedSince past) ≡ static past k
+  -- the static window does not take it in
+  pub left-out : (k : ℕ) → filter (counterIn Static past k) (here-counted ∷ countedSince past) ≡ static past k
   unfolding filter static
   left-out k = rw (ne-eqb (windowAt past + 1) (windowAt past) (λ e. omega arith))
 
@@ -163,7 +163,7 @@ module _ (past : Past) (c : Command) (n : ℕ) where
 all-active : (past : Past) → Good past → inForce past .enabled ≡ true → (n : ℕ) → All (Here past) (active past n)
 unfolding active
 all-active past g on n =
-    all-those (activeFor past n) (λ x t f. here past on n x t f) (countedSince past) (fine-counted past g)
+    all-those (counterIn Active past n) (λ x t f. here past on n x t f) (countedSince past) (fine-counted past g)
 
 -- the counts below threshold A with an enabled completion of a kind in the active window
 module _ (past : Past) (c : Command) (kind : ℕ) where
@@ -186,26 +186,18 @@ module _ (past : Past) (c : Command) (kind : ℕ) where
   unfolding belowACounts
   static-kept = λ i. from 0 3 (λ k. countOf (static-same k i))
 
-  module _ (below : Bool) (e : isBelowA (inForce past) c ≡ below) where
-    -- the test of this one
-    here-passes :
-        (k : ℕ) (b : Bool) →
-        eqb kind k ≡ b →
-        fast-within (windowAt past) k here-completed ≡ (b && below)
-    here-passes k b q = rw (eq-eqb (windowAt past) (windowAt past) refl, q, e)
-
-    other-kind : (k : ℕ) → (k ≡ kind → ⊥) → ofKindBelowA Active past k ≡ fast-joined k
-    unfolding filter ofKindBelowA
-    other-kind k other = rw (here-passes k false (ne-eqb kind k (λ q. other (sym q))))
+  other-kind : (k : ℕ) → (k ≡ kind → ⊥) → ofKindBelowA Active past k ≡ fast-joined k
+  unfolding filter ofKindBelowA
+  other-kind k other = rw (eq-eqb (windowAt past) (windowAt past) refl, ne-eqb kind k (λ q. other (sym q)))
 
   slow-kept :
       isBelowA (inForce past) c ≡ false →
       belowACounts Active past ≡ from 0 3 (λ k. countOf (fast-joined k))
   unfolding belowACounts ofKindBelowA filter
-  slow-kept reached = λ i. from 0 3 (λ k. countOf (by k (eqb kind k) refl i))
+  slow-kept reached = λ i. from 0 3 (λ k. countOf (by k i))
     where
-      by : (k : ℕ) (b : Bool) → eqb kind k ≡ b → ofKindBelowA Active past k ≡ fast-joined k
-      by k b q = rw (here-passes false reached k b q, and-false b)
+      by : (k : ℕ) → ofKindBelowA Active past k ≡ fast-joined k
+      by k = rw (reached, and-false (eqb (windowAt past) (windowAt past) && eqb kind k))
 
   fast-more :
       kind < 3 →
@@ -214,16 +206,17 @@ module _ (past : Past) (c : Command) (kind : ℕ) where
   unfolding belowACounts ofKindBelowA filter
   fast-more few below =
       counts-stored 3 (ofKindBelowA Active past) fast-joined kind here-completed few this
-      (other-kind true below)
+      other-kind
     where
       this : fast-joined kind ≡ here-completed ∷ ofKindBelowA Active past kind
-      this = rw (here-passes true below kind true (eq-eqb kind kind refl))
+      this = rw (eq-eqb (windowAt past) (windowAt past) refl, eq-eqb kind kind refl, below)
 
 -- the facts after a completion, by what it is if it is enabled and of a kind
 abbrev after-it : Past → Option Completed → Monitor
 after-it past o =
     described (inForce past) (timerAt past) (hostSetAt past) (enabledTime past % 300000) (clockAt past)
-    (found noDebugLog logOf (earliest (filter triggered (andThen (found none counted o) (since discardIn countedAt past)))))
+    (found noDebugLog logOf (earliest (filter triggered
+    (andThen (found none counted o) (since discardIn countedAt past)))))
     (windowAt past)
     (andThen o (sinceEnabled past))
 
@@ -309,16 +302,21 @@ pub completion-step :
     afterCompletion (recordOf past) c ≡ recordOf (completed c ∷ past)
 completion-step past g c = by (sorted (inForce past) c) ∙ sym (facts-after past c)
   where
-    to-facts : (o : Option Completed) → completedAt (completed c) past ≡ o → after-it past o ≡ after-it past (completedAt (completed c) past)
+    to-facts :
+        (o : Option Completed) →
+        completedAt (completed c) past ≡ o →
+        after-it past o ≡ after-it past (completedAt (completed c) past)
     to-facts o e = ap (after-it past) (sym e)
 
-    no-one : (o : Option ℕ) → found none (λ k. onlyIf false (here-completed past c k)) o ≡ none
+    no-one : (o : Option ℕ) → completedIf false o c past ≡ none
     no-one none = refl
     no-one (some k) = refl
 
     by : Sorted (inForce past) c → afterCompletion (recordOf past) c ≡ after-it past (completedAt (completed c) past)
     by (slow k b few low on kind reached e) =
-        slow-step past g c k (3 * b + k) (omega arith) on reached e ∙ to-facts (some (here-completed past c k)) (rw (kind, on))
-    by (fast k few on kind below e e') = fast-step past c k few below e e' ∙ to-facts (some (here-completed past c k)) (rw (kind, on))
+        slow-step past g c k (3 * b + k) (omega arith) on reached e ∙
+        to-facts (some (here-completed past c k)) (rw (kind, on))
+    by (fast k few on kind below e e') =
+        fast-step past c k few below e e' ∙ to-facts (some (here-completed past c k)) (rw (kind, on))
     by (kindless kind e e') = uncounted-step past c e e' ∙ to-facts none (rw kind)
     by (disabled off e e') = uncounted-step past c e e' ∙ to-facts none (rw off (no-one (kindOf c)))

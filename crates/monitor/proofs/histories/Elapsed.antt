@@ -1,7 +1,7 @@
 -- Elapsed time makes of the record that the facts describe the one that they describe after it.
 use Prim.Native.Nat.{ℕ, suc, _+_, _*_, _-_, _/_, _%_, _≤_, _<_}
 use mathlib.Core.Path.{_≡_, refl, sym, ap, _∙_}
-use mathlib.Core.Bool.{Bool, true, false, cond}
+use mathlib.Core.Bool.{Bool, true, false, cond, _&&_}
 use mathlib.Core.List.{List, [], _∷_}
 use native.Mathlib.Numerals.{add-one}
 use native.Mathlib.Omega.{arith}
@@ -14,9 +14,9 @@ use Rattle.monitor.specs.declared.report.WindowChoice.the-variants.{Acti
 use Rattle.monitor.specs.declared.timer.Tick.{Tick}
 use Rattle.monitor.specs.Claims.{loadedOf, recordOf}
 use Rattle.monitor.specs.Facts.{inForce, sum, clockAt, hostSetAt, timerThreshold, enabledTime, windowAt, timerAt}
-use Rattle.monitor.specs.Facts.{Counted, countedSince, sinceEnabled, filter, activeFor, active, static}
+use Rattle.monitor.specs.Facts.{Counted, countedSince, sinceEnabled, filter, active, static}
 use Rattle.monitor.specs.Facts.{countOf, lastLoad, stampOf, latencyOf, unitsOf, windowFrom, debugAt}
-use Rattle.monitor.specs.Facts.{ofKindBelowA, belowACounts}
+use Rattle.monitor.specs.Facts.{isFast, ofKindBelowA, belowACounts}
 use Rattle.monitor.specs.History.{passed, Past, latest, since}
 use Rattle.monitor.specs.Answers.{ended}
 use Rattle.monitor.specs.Record.{noLoads, noneBelowA, afterElapsed, elapsedAnswer}
@@ -25,7 +25,7 @@ use Rattle.monitor.proofs.record.Laws.{moved, elapsed-accepted}
 use Rattle.monitor.proofs.histories.Facts.{Good, Fine, FineAt, fine, fine-counted, span, enabled-threshold}
 use Rattle.monitor.proofs.histories.Facts.{enabled-positive, within, preceding, fast-within, fast-preceding}
 use Rattle.monitor.proofs.histories.Facts.{described}
-use Rattle.monitor.proofs.histories.Lists.{those-same, none-pass}
+use Rattle.monitor.proofs.histories.Lists.{none-pass}
 use Rattle.monitor.proofs.histories.Windows.{none-taken, none-partial, none-window, one-taken, one-partial}
 use Rattle.monitor.proofs.histories.Windows.{goes-on, ends, ends-timer, one-more}
 
@@ -62,18 +62,18 @@ late past place h = ne-eqb (windowAt place) (suc (windowAt past)) (λ e. omega (
 -- what a window's end makes of what is asked of each counter's completions
 module _ (past : Past) (g : Good past) {A : Type 0} (f : List Counted → A) where
   emptied : replicate 12 (f []) ≡ each (λ k. f (filter (within (suc (windowAt past)) k) (countedSince past)))
-  emptied = none-pass 12 (within (suc (windowAt past))) _ (λ k x h. rw (late past (x .before) h)) _ (fine-counted past g) f
+  emptied =
+      none-pass 12 (within (suc (windowAt past))) _ (λ k x h. rw (late past (x .before) h)) _ (fine-counted past g) f
 
-handed-on :
-    (past : Past) →
-    Good past →
-    (k : ℕ) →
-    active past k ≡ filter (preceding (suc (windowAt past)) k) (countedSince past)
+-- the active window's places are in the one before the next
+before-next :
+    (past place : Past) →
+    eqb (windowAt place) (windowAt past) ≡ eqb (windowAt place + 1) (suc (windowAt past))
+before-next past place = rw (add-one (windowAt place), eqb·suc-suc (windowAt place) (windowAt past))
+
+handed-on : (past : Past) (k : ℕ) → active past k ≡ filter (preceding (suc (windowAt past)) k) (countedSince past)
 unfolding active
-handed-on past g k =
-    those-same (activeFor past k) (λ (x : Counted). Fine past (x .before)) (preceding (suc (windowAt past)) k)
-    (λ x h. rw (add-one, eqb·suc-suc (windowAt (x .before)) (windowAt past)))
-    (countedSince past) (fine-counted past g)
+handed-on past k = λ i. filter (λ x. before-next past (x .before) i && eqb (x .counter) k) (countedSince past)
 
 empty-handed :
     (past : Past) →
@@ -106,15 +106,11 @@ fast-emptied past g =
     (sinceEnabled past) (fine past g) countOf
 
 fast-handed-on :
-    (past : Past) →
-    Good past →
-    (k : ℕ) →
+    (past : Past) (k : ℕ) →
     ofKindBelowA Active past k ≡ filter (fast-preceding (suc (windowAt past)) k) (sinceEnabled past)
 unfolding ofKindBelowA
-fast-handed-on past g k =
-    those-same (fast-within (windowAt past) k) (FineAt past) (fast-preceding (suc (windowAt past)) k)
-    (λ x h. rw (add-one (windowAt (x .before)), eqb·suc-suc (windowAt (x .before)) (windowAt past)))
-    (sinceEnabled past) (fine past g)
+fast-handed-on past k =
+    λ i. filter (λ x. (before-next past (x .before) i && eqb (x .kind) k) && isFast x) (sinceEnabled past)
 
 -- the timer's cases
 module _ (threshold timer partial ms : ℕ) where
@@ -213,8 +209,8 @@ module _ (past : Past) (g : Good past) (ms : ℕ) (fits : ms ≤ 300000) where
             loaded = no-loads past g i;
             debug = debugAt past;
             «active_below_a» = fast-emptied past g i;
-            «static_below_a» = from 0 3 (λ k. countOf (fast-handed-on past g k i));
-            «static_window» = windowFrom (λ k. handed-on past g k i);
+            «static_below_a» = from 0 3 (λ k. countOf (fast-handed-on past k i));
+            «static_window» = windowFrom (λ k. handed-on past k i);
             «active_window» = empty-handed past g i;
           }))
 

@@ -12,11 +12,12 @@ use Rattle.logpage.specs.Fields.{noSettings, from, each}
 use Rattle.logpage.specs.declared.DebugLog.{DebugLog}
 use Rattle.logpage.specs.declared.Settings.{Settings}
 use Rattle.monitor.specs.declared.record.Monitor.{Monitor}
+use Rattle.monitor.specs.declared.report.WindowChoice.the-variants.{Active}
 use Rattle.monitor.specs.Commands.{kindOf, counterOf}
 use Rattle.monitor.specs.Claims.{loadedOf}
 use Rattle.monitor.specs.Facts.{inForce, sum, time, clockAt, timerThreshold, enabledTime, windowAt}
-use Rattle.monitor.specs.Facts.{Completed, sinceEnabled, Counted, counted, filter, filterMap}
-use Rattle.monitor.specs.Facts.{countedSince, activeFor, countOf, orLoad, loadsAfter, lastLoad, windowFrom}
+use Rattle.monitor.specs.Facts.{Completed, completedIf, sinceEnabled, Counted, counted, filter, filterMap}
+use Rattle.monitor.specs.Facts.{countedSince, counterIn, countOf, orLoad, loadsAfter, lastLoad, windowFrom}
 use Rattle.monitor.specs.Facts.{isFast}
 use Rattle.monitor.specs.History.{Effect, configured, completed, passed, clockSet, poweredUp, nothing, Past}
 use Rattle.monitor.specs.History.{unlessFound, onlyIf}
@@ -106,7 +107,7 @@ fine (completed c ∷ past) g = go (kindOf c) (inForce past .enabled) (fine past
     go :
         (o : Option ℕ) (b : Bool) →
         All (FineAt past) (sinceEnabled past) →
-        All (FineAt (completed c ∷ past)) (andThen (found none (λ k. onlyIf b (record { kind = k; command = c; before = past })) o) (sinceEnabled past))
+        All (FineAt (completed c ∷ past)) (andThen (completedIf b o c past) (sinceEnabled past))
     go none b f = same f
     go (some k) false f = same f
     go (some k) true f = (
@@ -183,7 +184,7 @@ pub here :
     (past : Past) →
     inForce past .enabled ≡ true →
     (n : ℕ) (x : Counted) →
-    activeFor past n x ≡ true →
+    counterIn Active past n x ≡ true →
     Fine past (x .before) →
     Here past x
 unfolding windowAt

@@ -1,7 +1,7 @@
 -- Laws of tables with an entry for each number, and of lists with a fact or a test of each entry.
 use Prim.Native.Nat.{ℕ, zero, suc, _+_, _≤_, _<_}
 use mathlib.Core.Path.{_≡_, refl, sym, ap, _∙_}
-use mathlib.Core.Bool.{Bool, true, false, cond, _&&_}
+use mathlib.Core.Bool.{Bool, true, false, cond}
 use mathlib.Core.List.{List, [], _∷_}
 use mathlib.Core.Option.{Option, none, some}
 use native.Mathlib.Nat.{zero-add, add-zero, not-suc-le-zero}
@@ -13,7 +13,7 @@ use Rattle.logpage.specs.Fields.{from}
 use Rattle.monitor.specs.Counting.{onceMoreAt}
 use Rattle.monitor.specs.Facts.{filter, filterMap, countOf}
 use Rattle.monitor.specs.History.{andThen}
-pub use Rattle.monitor.specs.History.{Every as All}
+pub use Rattle.monitor.specs.History.{All}
 
 module _ {A : Type 0} where
   pub from-at : (i n : ℕ) (f : ℕ → A) (j : ℕ) (d : A) → j < n → getD (from i n f) j d ≡ f (i + j)
@@ -71,10 +71,6 @@ module _ {A : Type 0} where
   length-from i zero f = refl
   length-from i (suc n) f = ap suc (length-from (suc i) n f)
 
-pub and-false : (a : Bool) → (a && false) ≡ false
-and-false true = refl
-and-false false = refl
-
 -- a fact of what is there
 abbrev pub Some : {A : Type 0} → (A → Type 0) → Option A → Type 0
 Some P none = Unit {0}
@@ -127,16 +123,6 @@ all-those {Q = Q} t f (x ∷ xs) h = go (all-those t f xs (h .1)) (t x) refl
     go rest false e = rest
 
 module _ {A : Type 0} (t : A → Bool) (P : A → Type 0) where
-  pub those-same :
-      (s : A → Bool) →
-      ((x : A) → P x → t x ≡ s x) →
-      (xs : List A) →
-      All P xs →
-      filter t xs ≡ filter s xs
-  unfolding filter
-  those-same s f [] h = refl
-  those-same s f (x ∷ xs) h = rw (f x (h .0), those-same s f xs (h .1))
-
   pub those-none : ((x : A) → P x → t x ≡ false) → (xs : List A) → All P xs → filter t xs ≡ []
   unfolding filter
   those-none f [] h = refl

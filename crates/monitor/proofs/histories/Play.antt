@@ -14,12 +14,12 @@ use Rattle.monitor.specs.Answers.{refused, ended, unlessRefused}
 use Rattle.monitor.specs.Claims.{recordOf, PlayedAsFacts, WindowEnds}
 use Rattle.monitor.specs.Facts.{inForce, sum, clockAt, hostSetAt, timerThreshold, enabledTime, windowAt, timerAt}
 use Rattle.monitor.specs.Facts.{Completed, sinceEnabled, countedAt, filter, filterMap, active, static, countOf}
-use Rattle.monitor.specs.Facts.{lastLoad, discardIn, triggered, earliest, logOf, debugAt, ofKindBelowA, belowACounts}
-use Rattle.monitor.specs.History as calls
+use Rattle.monitor.specs.Facts.{lastLoad, discardIn, triggered, earliest, logOf, debugAt}
+use Rattle.monitor.specs.Facts.{ofKindBelowA, belowACounts}
 use Rattle.monitor.specs.History.{Call, settings, completion, elapsed, clock, powerUp, page, settingsBack}
 use Rattle.monitor.specs.History.{History, after, playFrom, Effect, configured, clockSet, poweredUp, nothing}
 use Rattle.monitor.specs.History.{passed, asked, refusalOf, ifAccepted, Past, pastOf, found, latest, since}
-use Rattle.monitor.specs.History.{unlessFound, onlyIf}
+use Rattle.monitor.specs.History.{belowA, unlessFound, onlyIf}
 use Rattle.monitor.specs.Record.{newMonitor, afterSettings, afterElapsed, elapsedAnswer, afterClock, afterPowerUp}
 use Rattle.monitor.specs.Refusals.{settingsRefusal, elapsedRefusal, clockRefusal, pageRefusal}
 use Rattle.monitor.specs.Refusals.{settingsBackRefusal}
@@ -170,7 +170,7 @@ step past g (clock value) = by (clockRefusal value) refl
 step past g powerUp = (tt, power-up-step past)
 step past g (page k) = reads past (pageRefusal k)
 step past g (settingsBack k) = reads past (settingsBackRefusal k)
-step past g (calls.belowA w) = reads past none
+step past g (belowA w) = reads past none
 
 pub good : (h : History) → Good (pastOf h)
 unfolding Step

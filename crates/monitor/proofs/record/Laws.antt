@@ -3,7 +3,7 @@ use mathlib.Core.Path.{_≡_}
 use mathlib.Core.Bool.{Bool, true, false, cond}
 use mathlib.Core.List.{List}
 use mathlib.Core.Option.{some, none}
-use Prim.Native.Nat.{ℕ, _-_, _≤_}
+use Prim.Native.Nat.{ℕ, _≤_}
 use lib.Dec.{eqb}
 use lib.ListN.{set}
 use borrow.Author.Tests.{le-ltb}
@@ -16,14 +16,14 @@ use Rattle.monitor.specs.declared.timer.Tick.{Tick}
 use Rattle.monitor.specs.Answers.{done, refused, notCounted, counted, ended, unlessRefused}
 use Rattle.monitor.specs.Refusals.{settingsRefusal, elapsedRefusal}
 use Rattle.monitor.specs.Settings.{discard, decoded}
-use Rattle.monitor.specs.Counting.{bit, onceMoreAt, loads, countedIn, countedBelowA, triggers, debugLog}
+use Rattle.monitor.specs.Counting.{bit, onceMoreAt, countedIn, countedBelowA, triggers, debugLog}
 use Rattle.monitor.specs.Commands.{kindOf, counterOf, isBelowA, millisecondsOf}
 use Rattle.monitor.specs.Timer.{grown, ticked, inWindow}
-use Rattle.monitor.proofs.Counters.{withBelowA, uncounted}
+use Rattle.monitor.proofs.Counters.{uncounted}
 use Rattle.monitor.proofs.commands.Laws.{fast-uncounted, below-a-kind}
 use Rattle.monitor.proofs.settings.Laws.{refused-by}
-use Rattle.monitor.specs.Record.{noLoads, noneBelowA, afterSettings, settingsAnswer, afterCompletion, completionAnswer}
-use Rattle.monitor.specs.Record.{afterElapsed, elapsedAnswer, loadsAt}
+use Rattle.monitor.specs.Record.{noLoads, noneBelowA, afterSettings, settingsAnswer, afterCompletion}
+use Rattle.monitor.specs.Record.{completionAnswer, withBelowA, afterElapsed, elapsedAnswer, loadsAt}
 
 -- settings that are turned away
 pub settings-refused :

@@ -1,5 +1,5 @@
 -- `run`: before each record, none was refused and the monitor is what the records before it leave.
-use mathlib.Core.Path.{refl, sym, ap, _∙_}
+use mathlib.Core.Path.{sym, ap, _∙_}
 use Prim.Native.Nat.{_-_}
 use borrow.Author.Needs.{needs}
 use Rattle.monitor.specs.Answers.{saysAnswer, saysElapsed}

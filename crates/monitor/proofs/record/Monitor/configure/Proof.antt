@@ -44,7 +44,8 @@ returns-2 : tie.Need-returns-2
 returns-2 c =
     let then = c .before .before .before .before in
     rw (c .before .before .before .empty .ensures)
-    (settings-accepted _ _ _ _ _ (accepted (then .before .before .before .before)) (then .before .before .before .decode .ensures)
+    (settings-accepted _ _ _ _ _ (accepted (then .before .before .before .before))
+    (then .before .before .before .decode .ensures)
     (then .before .after-discard .ensures)
     (then .if1 .taken))
 

@@ -21,7 +21,8 @@ returns c =
     let then = c .before .before .before .before .before in
     let t = then .before .before in
     rw (c .before .before .empty .ensures)
-    (elapsed-accepted _ _ _ _ _ (t .before .if1 .taken) (t .ticked .ensures) (then .before .grown .ensures) (then .if2 .taken))
+    (elapsed-accepted _ _ _ _ _ (t .before .if1 .taken) (t .ticked .ensures) (then .before .grown .ensures)
+    (then .if2 .taken))
 
 returns-2 : tie.Need-returns-2
 returns-2 c =
