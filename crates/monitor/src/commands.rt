@@ -140,19 +140,12 @@ impl Command {
         }
     }
 
-    // The counts below threshold A, by kind, after a completion that is below it.
-    pub(crate) fn counted_below_a(self, counts: [u32; 3]) -> [u32; 3]
-        ensures { λ r. ⌜ r ≡ countedBelowA (kindOf self) counts ⌝ }
-    {
-        counting::counted_below_a(counts, kind_number(self.kind()))
-    }
-
-    // The counts below threshold A, by kind, after any completion.
+    // The counts below threshold A, by kind, after the completion.
     pub fn below_a(self, s: Settings, counts: [u32; 3]) -> [u32; 3]
         ensures { λ r. ⌜ r ≡ countedBelowA (belowAOf s self) counts ⌝ }
     {
         if self.is_below_a(s) {
-            self.counted_below_a(counts)
+            counting::counted_below_a(counts, kind_number(self.kind()))
         } else {
             counts
         }

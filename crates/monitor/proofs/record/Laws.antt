@@ -16,14 +16,14 @@ use Rattle.monitor.specs.declared.timer.Tick.{Tick}
 use Rattle.monitor.specs.Answers.{done, refused, notCounted, counted, ended, unlessRefused}
 use Rattle.monitor.specs.Refusals.{settingsRefusal, elapsedRefusal}
 use Rattle.monitor.specs.Settings.{discard, decoded}
-use Rattle.monitor.specs.Counting.{bit, onceMoreAt, countedIn, countedBelowA, triggers, debugLog}
-use Rattle.monitor.specs.Commands.{kindOf, counterOf, isBelowA, millisecondsOf}
+use Rattle.monitor.specs.Counting.{bit, onceMoreAt, countedIn, triggers, debugLog}
+use Rattle.monitor.specs.Commands.{counterOf, isBelowA, millisecondsOf}
 use Rattle.monitor.specs.Timer.{grown, ticked, inWindow}
 use Rattle.monitor.proofs.Counters.{uncounted}
-use Rattle.monitor.proofs.commands.Laws.{fast-uncounted, below-a-kind}
+use Rattle.monitor.proofs.commands.Laws.{below-a-kind}
 use Rattle.monitor.proofs.settings.Laws.{refused-by}
 use Rattle.monitor.specs.Record.{noLoads, noneBelowA, afterSettings, settingsAnswer, afterCompletion}
-use Rattle.monitor.specs.Record.{completionAnswer, withBelowA, afterElapsed, elapsedAnswer, loadsAt}
+use Rattle.monitor.specs.Record.{completionAnswer, afterElapsed, elapsedAnswer, loadsAt}
 
 -- settings that are turned away
 pub settings-refused :
@@ -61,15 +61,7 @@ unfolding afterSettings settingsAnswer
 settings-accepted m s next debug on accepted read keeps enables =
     (rw (accepted, ← read, ← enables, keeps), rw accepted)
 
--- a completion below threshold A, and one that is neither below it nor counted
-pub below-a :
-    (m : Monitor) (c : Command) (counts : List ℕ) →
-    isBelowA (m .settings) c ≡ true →
-    counts ≡ countedBelowA (kindOf c) (m .«active_below_a») →
-    (withBelowA m counts ≡ afterCompletion m c) × (notCounted ≡ completionAnswer m c)
-below-a m c counts below more =
-    uncounted m c counts (fast-uncounted (m .settings) c below) (rw (below-a-kind (m .settings) c true below) more)
-
+-- a completion that is neither below threshold A nor counted
 pub not-counted :
     (m : Monitor) (c : Command) →
     counterOf (m .settings) c ≡ none →

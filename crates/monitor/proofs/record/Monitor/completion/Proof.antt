@@ -1,8 +1,9 @@
 -- `Monitor::completion`: below threshold A; counted with the stamp loaded; counted with it kept; not counted.
 use mathlib.Core.Path.{_≡_, sym, _∙_}
 use mathlib.Core.Bool.{Bool, true, false}
-use Rattle.monitor.proofs.Counters.{is-counter, no-counter}
-use Rattle.monitor.proofs.record.Laws.{below-a, not-counted, Decided, decide}
+use Rattle.monitor.proofs.Counters.{is-counter, no-counter, uncounted}
+use Rattle.monitor.proofs.commands.Laws.{fast-uncounted}
+use Rattle.monitor.proofs.record.Laws.{not-counted, Decided, decide}
 use borrow.Author.Needs.{needs}
 use Rattle.monitor.proofs.record.Monitor.completion.Statement.{statement}
 use Rattle.monitor.proofs.record.Monitor.completion.Tie as tie
@@ -13,8 +14,8 @@ counter-requires c κs = search needs
 is-below-a-requires : tie.Need-is-below-a-requires
 is-below-a-requires c κs = search needs
 
-counted-below-a-requires : tie.Need-counted-below-a-requires
-counted-below-a-requires c κs = search needs
+below-a-requires : tie.Need-below-a-requires
+below-a-requires c κs = search needs
 
 cast-n : tie.Need-cast-n
 cast-n c = search needs
@@ -98,7 +99,8 @@ decided c load e =
 returns : tie.Need-returns
 returns c =
     let test = c .before .before .before in
-    below-a _ _ _ (sym (test .is-below-a .ensures) ∙ c .before .before .if1 .taken) (c .counted-below-a .ensures)
+    uncounted _ _ _ (fast-uncounted _ _ (sym (test .is-below-a .ensures) ∙ c .before .before .if1 .taken))
+    (c .below-a .ensures)
 
 returns-2 : tie.Need-returns-2
 returns-2 c =
@@ -124,7 +126,7 @@ completion-spec =
     (tie.spec
     counter-requires
     is-below-a-requires
-    counted-below-a-requires
+    below-a-requires
     cast-n
     milliseconds-requires
     triggers-requires
