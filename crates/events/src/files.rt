@@ -49,7 +49,7 @@ pub fn run(m: Monitor, s: &[u8]) -> Stop
             // call.
             if c.counter(settings) == NOT_COUNTED {
                 let active = monitor.active_below_a;
-                let counts = c.below_a(settings, active);
+                let counts = c.counts_below_a(settings, active);
                 monitor.active_below_a = counts;
                 i += 1;
             } else {

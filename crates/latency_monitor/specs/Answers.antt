@@ -3,7 +3,7 @@ use mathlib.Core.Bool.{Bool, true, false}
 use mathlib.Core.List.{List}
 use Prim.Native.Nat.{ℕ}
 use lib.ListN.{getD}
-use Rattle.monitor.specs.Answers.{CallAnswer, refused, done, notCounted, counted, ended, belowA}
+use Rattle.monitor.specs.Answers.{CallAnswer, refused, done, notCounted, counted, ended, byKind}
 use Rattle.latency_monitor.specs.declared.answers.PlainCompletionAnswer.{PlainCompletionAnswer}
 use Rattle.latency_monitor.specs.declared.answers.PlainElapsedAnswer.{PlainElapsedAnswer}
 use Rattle.latency_monitor.specs.declared.answers.PlainBelowA.{PlainBelowA}
@@ -15,7 +15,7 @@ asRefusal done = 0
 asRefusal notCounted = 0
 asRefusal (counted n loaded debug) = 0
 asRefusal (ended b) = 0
-asRefusal (belowA counts) = 0
+asRefusal (byKind counts) = 0
 
 -- 01, Time and power: whether the active window ended
 abbrev pub asEnded : CallAnswer → Bool
@@ -24,7 +24,7 @@ asEnded done = false
 asEnded notCounted = false
 asEnded (counted n loaded debug) = false
 asEnded (ended b) = b
-asEnded (belowA counts) = false
+asEnded (byKind counts) = false
 
 -- the answer to elapsed time
 abbrev pub asElapsed : CallAnswer → PlainElapsedAnswer
@@ -42,7 +42,7 @@ asCompletion notCounted = noCounter
 asCompletion (counted n loaded debug) =
     record { counter = n; counted = true; loaded = loaded; debug = debug }
 asCompletion (ended b) = noCounter
-asCompletion (belowA counts) = noCounter
+asCompletion (byKind counts) = noCounter
 
 -- 02, Ticket 2: the counts below threshold A, by the kind's number (01, The monitor's record)
 abbrev pub asBelowA : List ℕ → PlainBelowA

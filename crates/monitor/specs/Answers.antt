@@ -21,7 +21,7 @@ pub data CallAnswer : Type 0 where
   -- 01, Time and power: whether the active window ended
   ended : Bool → CallAnswer
   -- 02, Ticket 2: the counts below threshold A of a window, by kind
-  belowA : List ℕ → CallAnswer
+  byKind : List ℕ → CallAnswer
 
 -- the refusal if there is one, else the answer of an accepted call
 abbrev pub unlessRefused : Option ℕ → CallAnswer → CallAnswer

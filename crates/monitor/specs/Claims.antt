@@ -9,7 +9,6 @@ use lib.ListN.{length, getD, set, replicate}
 use Rattle.logpage.specs.Page.{pageBytes}
 use Rattle.logpage.specs.Reader.{shown, readRefusal, readingOf}
 use Rattle.logpage.specs.Fields.{from, each}
-use Rattle.logpage.specs.declared.Window.{Window}
 use Rattle.monitor.specs.Facts.{inForce, clockAt, hostSetAt, timerThreshold, enabledTime, windowAt, timerAt}
 use Rattle.monitor.specs.Facts.{Counted, active, static, countOf, lastLoad, stampOf, latencyOf, unitsOf}
 use Rattle.monitor.specs.Facts.{windowFrom, debugAt, factsOf, sum, ofKind, belowACounts}
@@ -21,7 +20,7 @@ use Rattle.monitor.specs.declared.record.Monitor.{Monitor}
 use Rattle.monitor.specs.declared.report.WindowChoice.{WindowChoice}
 use Rattle.monitor.specs.declared.report.WindowChoice.the-variants.{Active, Static}
 use Rattle.monitor.specs.Refusals.{elapsedRefusal, pageRefusal, settingsBackRefusal}
-use Rattle.monitor.specs.Report.{pageOf, settingsOf, countsBelowA}
+use Rattle.monitor.specs.Report.{pageOf, settingsOf, chosenWindow, countsBelowA}
 use Rattle.monitor.specs.Settings.{encoded}
 
 -- the time in the active window at a stamp's load, which the record keeps for the minimum window
@@ -111,13 +110,9 @@ abbrev pub BelowAShowsFacts : Type 0
 BelowAShowsFacts = (h : History) (w : WindowChoice) → countsBelowA w (play h) ≡ belowACounts w (pastOf h)
 
 -- a kind's five counts in a window: below threshold A, as the call returns it, and those of its four counters
-abbrev pub windowIn : WindowChoice → Monitor → Window
-windowIn Active m = m .«active_window»
-windowIn Static m = m .«static_window»
-
 abbrev pub fiveCounts : WindowChoice → Monitor → ℕ → List ℕ
 fiveCounts w m k =
-    getD (countsBelowA w m) k 0 ∷ from 0 4 (λ bucket. getD (windowIn w m .counters) (3 * bucket + k) 0)
+    getD (countsBelowA w m) k 0 ∷ from 0 4 (λ bucket. getD (chosenWindow w m .counters) (3 * bucket + k) 0)
 
 -- 02, Ticket 2: unless one of the five is at its top, they add up to the enabled completions of the kind in the window,
 -- counted from the history whatever their latencies

@@ -99,13 +99,13 @@ pub record Counted : Type 0 where
   pub command : Command
   pub before : Past
 
-abbrev pub counted : Completed → Option Counted
-counted x =
+abbrev pub countedOf : Completed → Option Counted
+countedOf x =
     found none (λ n. some (record { counter = n; command = x .command; before = x .before }))
     (counterOf (inForce (x .before)) (x .command))
 
 abbrev pub countedAt : Effect → Past → Option Counted
-countedAt e past = found none counted (completedAt e past)
+countedAt e past = found none countedOf (completedAt e past)
 
 -- what f finds of the entries of a list
 unfoldable pub filterMap : {A B : Type 0} → (A → Option B) → List A → List B
@@ -119,7 +119,7 @@ filter test (x ∷ xs) = cond (test x) (x ∷ filter test xs) (filter test xs)
 
 -- the counted ones among all of them
 abbrev pub countedSince : Past → List Counted
-countedSince past = filterMap counted (sinceEnabled past)
+countedSince past = filterMap countedOf (sinceEnabled past)
 
 -- whether a place is in the active window of a past, or in its static one (document 01: running, last finished)
 abbrev pub isIn : WindowChoice → Past → Past → Bool

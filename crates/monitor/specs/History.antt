@@ -7,8 +7,7 @@ use Rattle.endian.specs.Bytes.{Bytes}
 use Rattle.monitor.specs.declared.commands.Command.{Command}
 use Rattle.monitor.specs.declared.record.Monitor.{Monitor}
 use Rattle.monitor.specs.declared.report.WindowChoice.{WindowChoice}
-use Rattle.monitor.specs.Answers as answers
-use Rattle.monitor.specs.Answers.{CallAnswer, done}
+use Rattle.monitor.specs.Answers.{CallAnswer, done, byKind}
 use Rattle.monitor.specs.Record.{newMonitor, afterSettings, afterCompletion, afterElapsed, afterClock}
 use Rattle.monitor.specs.Record.{afterPowerUp, settingsAnswer, completionAnswer, elapsedAnswer, clockAnswer}
 use Rattle.monitor.specs.Refusals.{settingsRefusal, elapsedRefusal, clockRefusal, pageRefusal}
@@ -51,7 +50,7 @@ answerOf m (clock value) = clockAnswer value
 answerOf m powerUp = done
 answerOf m (page n) = pageAnswer n
 answerOf m (settingsBack n) = settingsBackAnswer n
-answerOf m (belowA w) = answers.belowA (countsBelowA w m)
+answerOf m (belowA w) = byKind (countsBelowA w m)
 
 -- the record that a history leaves of another
 unfoldable pub playFrom : Monitor → History → Monitor

@@ -4,6 +4,7 @@ use Prim.Native.Nat.{ℕ}
 use lib.ListN.{length}
 use Rattle.logpage.specs.Page.{pageBytes}
 use Rattle.logpage.specs.declared.page.LogPage.{LogPage}
+use Rattle.logpage.specs.declared.Window.{Window}
 use Rattle.monitor.specs.declared.record.Monitor.{Monitor}
 use Rattle.monitor.specs.declared.report.WindowChoice.{WindowChoice}
 use Rattle.monitor.specs.declared.report.WindowChoice.the-variants.{Active, Static}
@@ -43,7 +44,11 @@ afterSettingsBack m buffer = untouchedIf (settingsBackRefusal (length buffer)) b
 unfoldable pub settingsBackAnswer : ℕ → CallAnswer
 settingsBackAnswer n = unlessRefused (settingsBackRefusal n) done
 
--- 02, Ticket 2: the counts below threshold A of either window, by kind
+-- 02, Ticket 2: either window, and its counts below threshold A by kind
+abbrev pub chosenWindow : WindowChoice → Monitor → Window
+chosenWindow Active m = m .«active_window»
+chosenWindow Static m = m .«static_window»
+
 abbrev pub countsBelowA : WindowChoice → Monitor → List ℕ
 countsBelowA Active m = m .«active_below_a»
 countsBelowA Static m = m .«static_below_a»

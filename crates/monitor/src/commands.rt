@@ -141,7 +141,7 @@ impl Command {
     }
 
     // The counts below threshold A, by kind, after the completion.
-    pub fn below_a(self, s: Settings, counts: [u32; 3]) -> [u32; 3]
+    pub fn counts_below_a(self, s: Settings, counts: [u32; 3]) -> [u32; 3]
         ensures { λ r. ⌜ r ≡ countedBelowA (belowAOf s self) counts ⌝ }
     {
         if self.is_below_a(s) {

@@ -147,7 +147,7 @@ impl Monitor {
         let counter = c.counter(self.settings);
         if c.is_below_a(self.settings) {
             let active = self.active_below_a;
-            let counts = c.below_a(self.settings, active);
+            let counts = c.counts_below_a(self.settings, active);
             self.active_below_a = counts;
             let answer = CompletionAnswer::BelowA;
             CompletionOutcome { next: self, answer }

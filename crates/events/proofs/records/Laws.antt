@@ -24,13 +24,12 @@ use Rattle.monitor.specs.declared.answers.ElapsedAnswer.{ElapsedAnswer}
 use Rattle.monitor.specs.declared.answers.ElapsedAnswer.the-variants as time
 use Rattle.monitor.specs.declared.commands.Command.{Command}
 use Rattle.monitor.specs.declared.record.Monitor.{Monitor}
-use Rattle.monitor.specs.Answers.{CallAnswer, refused, done, notCounted, counted, ended, unlessRefused, saysElapsed}
-use Rattle.monitor.specs.Answers as answers
+use Rattle.monitor.specs.Answers.{CallAnswer, refused, done, notCounted, counted, ended, byKind, unlessRefused}
+use Rattle.monitor.specs.Answers.{saysElapsed}
 use Rattle.monitor.specs.Commands.{counterNumber, counterOf, belowAOf}
 use Rattle.monitor.specs.Counting.{countedBelowA}
-use Rattle.monitor.specs.History as calls
 use Rattle.monitor.specs.History.{Call, settings, completion, elapsed, clock, powerUp, page, settingsBack}
-use Rattle.monitor.specs.History.{after, answerOf, playFrom, refusalOf, found}
+use Rattle.monitor.specs.History.{belowA, after, answerOf, playFrom, refusalOf, found}
 use Rattle.monitor.specs.Record.{withBelowA, settingsAnswer, completionAnswer, elapsedAnswer, clockAnswer}
 use Rattle.monitor.specs.Refusals.{settingsRefusal, elapsedRefusal, clockRefusal, pageRefusal, settingsBackRefusal}
 use Rattle.monitor.specs.Report.{pageAnswer, settingsBackAnswer}
@@ -245,7 +244,7 @@ refusalIn done = none
 refusalIn notCounted = none
 refusalIn (counted n loaded debug) = none
 refusalIn (ended e) = none
-refusalIn (answers.belowA counts) = none
+refusalIn (byKind counts) = none
 
 -- a call's answer names the row that turns it away
 named : (m : Monitor) (c : Call) → refusalIn (answerOf m c) ≡ refusalOf c
@@ -268,7 +267,7 @@ named m c = by c
     by powerUp = refl
     by (page n) = unless (pageRefusal n) done refl
     by (settingsBack n) = unless (settingsBackRefusal n) done refl
-    by (calls.belowA w) = refl
+    by (belowA w) = refl
 
 -- answers to elapsed time other than a refusal name none
 pub let-through : (a : ElapsedAnswer) → OneOf (1 ∷ 2 ∷ []) (tagOf the-type a) → refusalIn (saysElapsed a) ≡ none

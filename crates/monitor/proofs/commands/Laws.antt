@@ -128,7 +128,7 @@ has-bucket thresholds us a (suc n) = by (reaches us (getD thresholds (suc n) 0))
         more-of (found-at b h) = found-at b (omega arith)
 
 -- what becomes of a completion: it has a counter, it is below threshold A, or it is of no kind or comes while disabled
-pub data Sorted (s : Settings) (c : Command) : Type 0 where
+pub data Becomes (s : Settings) (c : Command) : Type 0 where
   slow :
       (k b : ℕ) →
       k < 3 →
@@ -137,7 +137,7 @@ pub data Sorted (s : Settings) (c : Command) : Type 0 where
       kindOf c ≡ some k →
       isBelowA s c ≡ false →
       counterOf s c ≡ some (3 * b + k) →
-      Sorted s c
+      Becomes s c
   fast :
       (k : ℕ) →
       k < 3 →
@@ -146,17 +146,17 @@ pub data Sorted (s : Settings) (c : Command) : Type 0 where
       isBelowA s c ≡ true →
       counterOf s c ≡ none →
       belowAOf s c ≡ some k →
-      Sorted s c
-  kindless : kindOf c ≡ none → counterOf s c ≡ none → belowAOf s c ≡ none → Sorted s c
-  disabled : s .enabled ≡ false → counterOf s c ≡ none → belowAOf s c ≡ none → Sorted s c
+      Becomes s c
+  kindless : kindOf c ≡ none → counterOf s c ≡ none → belowAOf s c ≡ none → Becomes s c
+  disabled : s .enabled ≡ false → counterOf s c ≡ none → belowAOf s c ≡ none → Becomes s c
 
 at-no-kind : (o : Option ℕ) → counterAt o none ≡ none
 at-no-kind none = refl
 at-no-kind (some b) = refl
 
-pub sorted : (s : Settings) (c : Command) → Sorted s c
+pub becomes : (s : Settings) (c : Command) → Becomes s c
 unfolding isBelowA counterOf belowAOf bucketOf
-sorted s c = by (s .enabled) refl (reachesA (s .thresholds) c) refl (kindOf c) refl
+becomes s c = by (s .enabled) refl (reachesA (s .thresholds) c) refl (kindOf c) refl
   where
     by :
         (on : Bool) →
@@ -165,7 +165,7 @@ sorted s c = by (s .enabled) refl (reachesA (s .thresholds) c) refl (kindOf c) r
         reachesA (s .thresholds) c ≡ slow-enough →
         (kind : Option ℕ) →
         kindOf c ≡ kind →
-        Sorted s c
+        Becomes s c
     by false off true a kind k = disabled off (rw off) (rw a)
     by false off false a kind k = disabled off (rw off) (rw (a, off))
     by true on false a none k = kindless k (rw (on, a)) (rw (on, a) k)
@@ -176,14 +176,14 @@ sorted s c = by (s .enabled) refl (reachesA (s .thresholds) c) refl (kindOf c) r
     by true on true a (some kind) k =
         bucketed (highestBelow (s .thresholds) (c .latency) 4) refl (has-bucket (s .thresholds) (c .latency) a 3)
       where
-        bucketed : (o : Option ℕ) → highestBelow (s .thresholds) (c .latency) 4 ≡ o → Found 4 o → Sorted s c
+        bucketed : (o : Option ℕ) → highestBelow (s .thresholds) (c .latency) 4 ≡ o → Found 4 o → Becomes s c
         bucketed o e (found-at b few) = slow kind b (kind-few c kind k) few on k (rw (on, a)) (rw (on, a, e, k))
 
 -- a completion below threshold A has no counter
 pub fast-uncounted : (s : Settings) (c : Command) → isBelowA s c ≡ true → counterOf s c ≡ none
-fast-uncounted s c below = by (sorted s c)
+fast-uncounted s c below = by (becomes s c)
   where
-    by : Sorted s c → counterOf s c ≡ none
+    by : Becomes s c → counterOf s c ≡ none
     by (slow k b few low on kind reached e) = absurd (true≢false (sym below ∙ reached))
     by (fast k few on kind is e e') = e
     by (kindless kind e e') = e

@@ -4,7 +4,6 @@ use mathlib.Core.Path.{_≡_, refl, sym, ap, subst, _∙_}
 use mathlib.Core.Bool.{Bool, true, false, cond, _&&_, and-true, and-false}
 use mathlib.Core.List.{List, [], _∷_}
 use mathlib.Core.Option.{Option, none, some}
-use native.Mathlib.Nat.{zero-add}
 use native.Mathlib.Omega.{arith}
 use lib.Dec.{eqb}
 use lib.ListN.{length, getD}
@@ -13,16 +12,16 @@ use Rattle.logpage.specs.Fields.{from}
 use Rattle.monitor.specs.declared.report.WindowChoice.{WindowChoice}
 use Rattle.monitor.specs.declared.report.WindowChoice.the-variants.{Active, Static}
 use Rattle.monitor.specs.Commands.{kindOf}
-use Rattle.monitor.specs.Claims.{recordOf, windowIn, BelowAShowsFacts, fiveCounts, FiveCountsAddUp}
+use Rattle.monitor.specs.Claims.{recordOf, BelowAShowsFacts, fiveCounts, FiveCountsAddUp}
 use Rattle.monitor.specs.Facts.{inForce, enablingIn, sum, Completed, completedIf, completedAt}
-use Rattle.monitor.specs.Facts.{sinceEnabled, Counted, counted, countedSince, filter, filterMap, isIn}
+use Rattle.monitor.specs.Facts.{sinceEnabled, Counted, countedOf, countedSince, filter, filterMap, isIn}
 use Rattle.monitor.specs.Facts.{counterIn, active, static, countOf, isFast, ofKind, ofKindBelowA, belowACounts}
 use Rattle.monitor.specs.History.{Effect, completionIn, Past, pastOf, play, found, andThen}
-use Rattle.monitor.specs.Report.{countsBelowA}
+use Rattle.monitor.specs.Report.{chosenWindow, countsBelowA}
 use Rattle.monitor.specs.declared.commands.Command.{Command}
-use Rattle.monitor.proofs.commands.Laws.{Sorted, slow, fast, kindless, disabled, sorted}
+use Rattle.monitor.proofs.commands.Laws.{Becomes, slow, fast, kindless, disabled, becomes}
 use Rattle.monitor.proofs.histories.Bounds.{since-all}
-use Rattle.monitor.proofs.histories.Lists.{All, Some, from-at, from-same}
+use Rattle.monitor.proofs.histories.Lists.{All, Some, entry, from-same}
 use Rattle.monitor.proofs.histories.Play.{played-as-facts}
 
 pub below-a-shows-facts : BelowAShowsFacts
@@ -34,37 +33,37 @@ below-a-shows-facts h w = ap (countsBelowA w) (played-as-facts h) ∙ by w
     by Static = refl
 
 -- an enabled completion of a kind is counted in one bucket, or below threshold A
-data Place (x : Completed) : Type 0 where
+data FallsIn (x : Completed) : Type 0 where
   in-bucket :
       (b : ℕ) →
       b < 4 →
       isFast x ≡ false →
-      counted x ≡ some (record { counter = 3 * b + x .kind; command = x .command; before = x .before }) →
-      Place x
-  below-a : isFast x ≡ true → counted x ≡ none → Place x
+      countedOf x ≡ some (record { counter = 3 * b + x .kind; command = x .command; before = x .before }) →
+      FallsIn x
+  below-a : isFast x ≡ true → countedOf x ≡ none → FallsIn x
 
-abbrev Placed : Completed → Type 0
-Placed x = (x .kind < 3) × Place x
+abbrev Falls : Completed → Type 0
+Falls x = (x .kind < 3) × FallsIn x
 
-placed : (e : Effect) (past : Past) → Some Placed (completedAt e past)
-placed e past = by (completionIn e)
+falls : (e : Effect) (past : Past) → Some Falls (completedAt e past)
+falls e past = by (completionIn e)
   where
-    none-here : (c : Command) (o : Option ℕ) → Some Placed (completedIf false o c past)
+    none-here : (c : Command) (o : Option ℕ) → Some Falls (completedIf false o c past)
     none-here c none = tt
     none-here c (some k) = tt
 
-    as-sorted :
+    as-becomes :
         (c : Command) →
-        Sorted (inForce past) c →
-        Some Placed (completedIf (inForce past .enabled) (kindOf c) c past)
-    as-sorted c (slow k b few low on kind reached e) = rw (kind, on) (few, in-bucket b low reached (rw e))
-    as-sorted c (fast k few on kind below e e') = rw (kind, on) (few, below-a below (rw e))
-    as-sorted c (kindless kind e e') = rw kind tt
-    as-sorted c (disabled off e e') = rw off (none-here c (kindOf c))
+        Becomes (inForce past) c →
+        Some Falls (completedIf (inForce past .enabled) (kindOf c) c past)
+    as-becomes c (slow k b few low on kind reached e) = rw (kind, on) (few, in-bucket b low reached (rw e))
+    as-becomes c (fast k few on kind below e e') = rw (kind, on) (few, below-a below (rw e))
+    as-becomes c (kindless kind e e') = rw kind tt
+    as-becomes c (disabled off e e') = rw off (none-here c (kindOf c))
 
-    by : (o : Option Command) → Some Placed (found none (λ c. completedIf (inForce past .enabled) (kindOf c) c past) o)
+    by : (o : Option Command) → Some Falls (found none (λ c. completedIf (inForce past .enabled) (kindOf c) c past) o)
     by none = tt
-    by (some c) = as-sorted c (sorted (inForce past) c)
+    by (some c) = as-becomes c (becomes (inForce past) c)
 
 -- how many pass a test
 abbrev number : {A : Type 0} → (A → Bool) → List A → ℕ
@@ -165,17 +164,14 @@ module _ (t : Past → Bool) (k : ℕ) (few : k < 3) where
           one-bucket (t (x .before)) (eqb (x .kind) k) b there,
         )
 
-  add-up : (xs : List Completed) → All Placed xs → AddUp xs (filterMap counted xs)
+  add-up : (xs : List Completed) → All Falls xs → AddUp xs (filterMap countedOf xs)
   unfolding filterMap filter
   add-up [] h = refl
   add-up (x ∷ xs) h = by (h .0 .1) (add-up xs (h .1))
     where
-      by : Place x → AddUp xs (filterMap counted xs) → AddUp (x ∷ xs) (andThen (counted x) (filterMap counted xs))
-      by (below-a below e) rest = rw e (add-fast x xs (filterMap counted xs) rest below)
-      by (in-bucket b there reached e) rest = rw e (add-slow x xs (filterMap counted xs) rest (h .0 .0) b there reached)
-
-entry : (size : ℕ) (f : ℕ → ℕ) (k : ℕ) → k < size → getD (from 0 size f) k 0 ≡ f k
-entry size f k h = rw (zero-add k) at (from-at 0 size f k 0 h)
+      by : FallsIn x → AddUp xs (filterMap countedOf xs) → AddUp (x ∷ xs) (andThen (countedOf x) (filterMap countedOf xs))
+      by (below-a below e) rest = rw e (add-fast x xs (filterMap countedOf xs) rest below)
+      by (in-bucket b there reached e) rest = rw e (add-slow x xs (filterMap countedOf xs) rest (h .0 .0) b there reached)
 
 -- the five counts of the record that the facts describe
 abbrev slow-in : WindowChoice → Past → ℕ → List Counted
@@ -189,16 +185,16 @@ unfolding recordOf belowACounts active static
 described-five past w k few = λ i. by w i ∷ from-same 0 4 _ _ (slow-at w) i
   where
     by : (v : WindowChoice) → getD (countsBelowA v (recordOf past)) k 0 ≡ countOf (ofKindBelowA v past k)
-    by Active = entry 3 (λ j. countOf (ofKindBelowA Active past j)) k few
-    by Static = entry 3 (λ j. countOf (ofKindBelowA Static past j)) k few
+    by Active = entry 3 (λ j. countOf (ofKindBelowA Active past j)) 0 k few
+    by Static = entry 3 (λ j. countOf (ofKindBelowA Static past j)) 0 k few
 
     slow-at :
         (v : WindowChoice) (b : ℕ) →
         0 ≤ b →
         b < 4 →
-        getD (windowIn v (recordOf past) .counters) (3 * b + k) 0 ≡ countOf (slow-in v past (3 * b + k))
-    slow-at Active b l low = entry 12 (λ n. countOf (slow-in Active past n)) (3 * b + k) (omega arith)
-    slow-at Static b l low = entry 12 (λ n. countOf (slow-in Static past n)) (3 * b + k) (omega arith)
+        getD (chosenWindow v (recordOf past) .counters) (3 * b + k) 0 ≡ countOf (slow-in v past (3 * b + k))
+    slow-at Active b l low = entry 12 (λ n. countOf (slow-in Active past n)) 0 (3 * b + k) (omega arith)
+    slow-at Static b l low = entry 12 (λ n. countOf (slow-in Static past n)) 0 (3 * b + k) (omega arith)
 
 module _ (past : Past) (w : WindowChoice) (k : ℕ) (few : k < 3) where
   -- a list of counts whose entries are below their top adds up
@@ -210,7 +206,7 @@ module _ (past : Past) (w : WindowChoice) (k : ℕ) (few : k < 3) where
   five-add-up top =
       omega (
         arith,
-        add-up (isIn w past) k few (sinceEnabled past) (since-all Placed enablingIn completedAt placed past),
+        add-up (isIn w past) k few (sinceEnabled past) (since-all Falls enablingIn completedAt falls past),
         top .0,
         top .1 .0,
         top .1 .1 .0,

@@ -15,7 +15,7 @@ use Rattle.endian.proofs.Layouts.{byte-at}
 use Rattle.monitor.specs.declared.commands.Command.{Command}
 use Rattle.monitor.specs.Commands.{kindOf, counterOf, millisecondsOf}
 use Rattle.monitor.specs.Facts.{inForce, sum, enablingIn, enablingIn, timerThreshold, enabledTime, whileEnabled}
-use Rattle.monitor.specs.Facts.{windowAt, timerAt, Counted, counted, countedAt, filter, countOf, lastLoad}
+use Rattle.monitor.specs.Facts.{windowAt, timerAt, Counted, countedOf, countedAt, filter, countOf, lastLoad}
 use Rattle.monitor.specs.Facts.{latencyOf, triggered, discardIn, orEarliest, earliest, logOf, debugAt, active}
 use Rattle.monitor.specs.Facts.{static, stampOf, completedIf}
 use Rattle.monitor.specs.Facts.{windowFrom, factsOf}
@@ -220,7 +220,7 @@ few e past = by (completionIn e)
     named c none q = tt
     named c (some n) q = counter-below (inForce past) c n q
 
-    of-kind : (c : Command) (k : Option ℕ) (on : Bool) → Some OfTwelve (found none counted (completedIf on k c past))
+    of-kind : (c : Command) (k : Option ℕ) (on : Bool) → Some OfTwelve (found none countedOf (completedIf on k c past))
     of-kind c none on = tt
     of-kind c (some k) false = tt
     of-kind c (some k) true = named c (counterOf (inForce past) c) refl
@@ -228,7 +228,7 @@ few e past = by (completionIn e)
     by :
         (o : Option Command) →
         Some OfTwelve
-        (found none counted (found none (λ c. completedIf (inForce past .enabled) (kindOf c) c past) o))
+        (found none countedOf (found none (λ c. completedIf (inForce past .enabled) (kindOf c) c past) o))
     by none = tt
     by (some c) = of-kind c (kindOf c) (inForce past .enabled)
 

@@ -17,7 +17,7 @@ use Rattle.monitor.specs.Commands.{kindOf, isBelowA, counterOf, belowAOf
 use Rattle.monitor.specs.Counting.{bit, onceMoreAt, loads, triggers, debugLog}
 use Rattle.monitor.specs.Claims.{loadedOf, recordOf}
 use Rattle.monitor.specs.Facts.{inForce, clockAt, hostSetAt, timerThreshold, enabledTime, windowAt, timerAt}
-use Rattle.monitor.specs.Facts.{Completed, completedIf, completedAt, sinceEnabled, Counted, counted}
+use Rattle.monitor.specs.Facts.{Completed, completedIf, completedAt, sinceEnabled, Counted, countedOf}
 use Rattle.monitor.specs.Facts.{countedAt, countedSince, filter, filterMap, counterIn, active, static, countOf}
 use Rattle.monitor.specs.Facts.{ofKindBelowA, belowACounts}
 use Rattle.monitor.specs.Facts.{loadsAfter, orLoad, lastLoad, stampOf, latencyOf, windowFrom}
@@ -25,7 +25,7 @@ use Rattle.monitor.specs.Facts.{discardIn, triggered, orEarliest, earlie
 use Rattle.monitor.specs.History.{completed, Past, found, andThen, latest, since}
 use Rattle.monitor.specs.Record.{afterCompletion}
 use Rattle.monitor.specs.Timer.{inWindow}
-use Rattle.monitor.proofs.commands.Laws.{Sorted, slow, fast, kindless, disabled, sorted}
+use Rattle.monitor.proofs.commands.Laws.{Becomes, slow, fast, kindless, disabled, becomes}
 use Rattle.monitor.proofs.Counters.{uncounted}
 use Rattle.monitor.proofs.record.Laws.{decide}
 use Rattle.monitor.proofs.histories.Facts.{Good, fine-counted, Here, here, span, into, clock-top, last-load-all}
@@ -216,7 +216,7 @@ abbrev after-it : Past → Option Completed → Monitor
 after-it past o =
     described (inForce past) (timerAt past) (hostSetAt past) (enabledTime past % 300000) (clockAt past)
     (found noDebugLog logOf (earliest (filter triggered
-    (andThen (found none counted o) (since discardIn countedAt past)))))
+    (andThen (found none countedOf o) (since discardIn countedAt past)))))
     (windowAt past)
     (andThen o (sinceEnabled past))
 
@@ -300,7 +300,7 @@ pub completion-step :
     Good past →
     (c : Command) →
     afterCompletion (recordOf past) c ≡ recordOf (completed c ∷ past)
-completion-step past g c = by (sorted (inForce past) c) ∙ sym (facts-after past c)
+completion-step past g c = by (becomes (inForce past) c) ∙ sym (facts-after past c)
   where
     to-facts :
         (o : Option Completed) →
@@ -312,7 +312,7 @@ completion-step past g c = by (sorted (inForce past) c) ∙ sym (facts-after pas
     no-one none = refl
     no-one (some k) = refl
 
-    by : Sorted (inForce past) c → afterCompletion (recordOf past) c ≡ after-it past (completedAt (completed c) past)
+    by : Becomes (inForce past) c → afterCompletion (recordOf past) c ≡ after-it past (completedAt (completed c) past)
     by (slow k b few low on kind reached e) =
         slow-step past g c k (3 * b + k) (omega arith) on reached e ∙
         to-facts (some (here-completed past c k)) (rw (kind, on))

@@ -16,7 +16,7 @@ use Rattle.monitor.specs.declared.report.WindowChoice.the-variants.{Acti
 use Rattle.monitor.specs.Commands.{kindOf, counterOf}
 use Rattle.monitor.specs.Claims.{loadedOf}
 use Rattle.monitor.specs.Facts.{inForce, sum, time, clockAt, timerThreshold, enabledTime, windowAt}
-use Rattle.monitor.specs.Facts.{Completed, completedIf, sinceEnabled, Counted, counted, filter, filterMap}
+use Rattle.monitor.specs.Facts.{Completed, completedIf, sinceEnabled, Counted, countedOf, filter, filterMap}
 use Rattle.monitor.specs.Facts.{countedSince, counterIn, countOf, orLoad, loadsAfter, lastLoad, windowFrom}
 use Rattle.monitor.specs.Facts.{isFast}
 use Rattle.monitor.specs.History.{Effect, configured, completed, passed, clockSet, poweredUp, nothing, Past}
@@ -147,7 +147,7 @@ fine (nothing ∷ past) g =
 -- and so of the counted ones among them
 pub fine-counted : (past : Past) → Good past → All (λ (x : Counted). Fine past (x .before)) (countedSince past)
 fine-counted past g =
-    all-found (FineAt past) (λ (y : Counted). Fine past (y .before)) counted
+    all-found (FineAt past) (λ (y : Counted). Fine past (y .before)) countedOf
     (λ x k. by x k (counterOf (inForce (x .before)) (x .command))) (sinceEnabled past) (fine past g)
   where
     by :
@@ -220,10 +220,10 @@ described settings timer hostSet partial clock debug w xs =
       «host_set» = hostSet;
       partial = partial;
       clock = clock;
-      loaded = each (λ k. loadedOf (lastLoad (filter (within w k) (filterMap counted xs))));
+      loaded = each (λ k. loadedOf (lastLoad (filter (within w k) (filterMap countedOf xs))));
       debug = debug;
       «active_below_a» = from 0 3 (λ k. countOf (filter (fast-within w k) xs));
       «static_below_a» = from 0 3 (λ k. countOf (filter (fast-preceding w k) xs));
-      «static_window» = windowFrom (λ k. filter (preceding w k) (filterMap counted xs));
-      «active_window» = windowFrom (λ k. filter (within w k) (filterMap counted xs));
+      «static_window» = windowFrom (λ k. filter (preceding w k) (filterMap countedOf xs));
+      «active_window» = windowFrom (λ k. filter (within w k) (filterMap countedOf xs));
     }

@@ -22,6 +22,9 @@ module _ {A : Type 0} where
   from-at i (suc n) f zero d h = rw (add-zero i)
   from-at i (suc n) f (suc j) d h = from-at (suc i) n f j d (omega arith) ∙ ap f (omega arith)
 
+  pub entry : (size : ℕ) (f : ℕ → A) (d : A) (k : ℕ) → k < size → getD (from 0 size f) k d ≡ f k
+  entry size f d k h = rw (zero-add k) at (from-at 0 size f k d h)
+
   pub from-same : (i n : ℕ) (f g : ℕ → A) → ((k : ℕ) → i ≤ k → k < i + n → f k ≡ g k) → from i n f ≡ from i n g
   unfolding from
   from-same i zero f g h = refl
@@ -104,7 +107,7 @@ pub counts-stored :
     onceMoreAt (from 0 size (λ k. countOf (f k))) n ≡ from 0 size (λ k. countOf (g k))
 unfolding countOf
 counts-stored size f g n x few there elsewhere =
-    rw (from-at 0 size (λ k. countOf (f k)) n 0 few, zero-add n)
+    rw (entry size (λ k. countOf (f k)) 0 n few)
     (from-stored size (λ k. countOf (f k)) (λ k. countOf (g k)) n _ (rw there (omega arith))
     (λ k other. ap countOf (elsewhere k other)))
 

@@ -4,7 +4,6 @@ use mathlib.Core.Path.{_≡_, sym, ap, _∙_}
 use mathlib.Core.Bool.{false}
 use mathlib.Core.List.{List}
 use lib.ListN.{getD}
-use native.Mathlib.Nat.{zero-add}
 use Rattle.logpage.specs.Page.{pageBytes}
 use Rattle.logpage.specs.Fields.{each}
 use Rattle.logpage.proofs.Written.{page-apart}
@@ -14,11 +13,10 @@ use Rattle.monitor.specs.Facts.{windowFrom, factsOf}
 use Rattle.monitor.specs.History.{Past, pastOf}
 use Rattle.monitor.proofs.histories.Bounds.{facts-fit}
 use Rattle.monitor.proofs.histories.Given.{page-shows-facts}
-use Rattle.monitor.proofs.histories.Lists.{from-at, from-same}
+use Rattle.monitor.proofs.histories.Lists.{entry, from-same}
 
 each-at : {A : Type 0} (d : A) (f g : ℕ → A) → each f ≡ each g → (n : ℕ) → n < 12 → f n ≡ g n
-each-at d f g e n few =
-    rw (zero-add n) at (sym (from-at 0 12 f n d few) ∙ ap (λ l. getD l n d) e ∙ from-at 0 12 g n d few)
+each-at d f g e n few = sym (entry 12 f d n few) ∙ ap (λ l. getD l n d) e ∙ entry 12 g d n few
 
 -- windows, by the completions counted for each counter
 module _ (f g : ℕ → List Counted) where

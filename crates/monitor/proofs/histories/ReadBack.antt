@@ -4,14 +4,12 @@ use mathlib.Core.Path.{_≡_, refl}
 use mathlib.Core.Bool.{Bool, true, false, cond, _||_}
 use mathlib.Core.List.{List, [], _∷_}
 use mathlib.Core.Option.{Option, none, some}
-use native.Mathlib.Nat.{zero-add}
 use native.Mathlib.Omega.{arith}
 use lib.Dec.{ltb}
-use lib.ListN.{getD}
 use lib.Pow.{pow-lt}
 use borrow.Author.Tests.{ltb-false, lt-ltb, ne-eqb}
 use Rattle.logpage.specs.BlockReader.{ofTwelve, counterFits, windowFits}
-use Rattle.logpage.specs.Fields.{unset, noSettings, noDebugLog, each}
+use Rattle.logpage.specs.Fields.{unset, noSettings, noDebugLog}
 use Rattle.logpage.specs.Reader.{debugFits, fieldsFit}
 use Rattle.logpage.specs.declared.Settings.{Settings}
 use Rattle.logpage.proofs.Lists.{all-pass}
@@ -28,7 +26,7 @@ use Rattle.monitor.proofs.histories.Bounds.{Sound, SoundPast, sound-pas
 use Rattle.monitor.proofs.histories.Bounds.{since-all, facts-fit}
 use Rattle.monitor.proofs.histories.Facts.{clock-top}
 use Rattle.monitor.proofs.histories.Given.{page-shows-facts}
-use Rattle.monitor.proofs.histories.Lists.{Some, all-those, from-at}
+use Rattle.monitor.proofs.histories.Lists.{Some, all-those, entry}
 
 -- masks of the settings in force
 abbrev MasksFit : Settings → Type 0
@@ -77,9 +75,6 @@ counter-fits (x ∷ xs) = by (orLoad x (lastLoad xs)) refl
         let top = clock-top (y .before) in
         rw (ne-eqb (stampOf (some y)) unset (λ u. omega arith), lt-ltb (stampOf (some y)) 281474976710656 (omega arith))
 
-entry : {A : Type 0} (f : ℕ → A) (d : A) (k : ℕ) → k < 12 → getD (each f) k d ≡ f k
-entry f d k h = rw (zero-add k) at (from-at 0 12 f k d h)
-
 window-keeps : (completions : ℕ → List Counted) → windowFits (windowFrom completions) ≡ true
 unfolding windowFits
 window-keeps completions =
@@ -88,10 +83,10 @@ window-keeps completions =
     let h : k < 12 = omega arith in
     let load : ℕ → Option Counted = λ n. lastLoad (completions n) in
     rw (
-      entry (λ n. countOf (completions n)) 0 k h,
-      entry (λ n. stampOf (load n)) 0 k h,
-      entry (λ n. latencyOf (load n)) 0 k h,
-      entry (λ n. unitsOf (load n)) false k h,
+      entry 12 (λ n. countOf (completions n)) 0 k h,
+      entry 12 (λ n. stampOf (load n)) 0 k h,
+      entry 12 (λ n. latencyOf (load n)) 0 k h,
+      entry 12 (λ n. unitsOf (load n)) false k h,
     )
     (counter-fits (completions k)))
 

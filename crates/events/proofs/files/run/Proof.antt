@@ -43,8 +43,8 @@ command-requires c κs = sixteen _ (c .before .before .before .before .loop .i) 
 counter-requires : tie.Need-counter-requires Inv-loop μ-loop
 counter-requires c κs = search needs
 
-below-a-requires : tie.Need-below-a-requires Inv-loop μ-loop
-below-a-requires c κs = search needs
+counts-below-a-requires : tie.Need-counts-below-a-requires Inv-loop μ-loop
+counts-below-a-requires c κs = search needs
 
 add-i : tie.Need-add-i Inv-loop μ-loop
 add-i c = search needs
@@ -62,7 +62,7 @@ loop-again c =
     (sym (r .before .before .is-completion .ensures) ∙ r .before .if1 .taken)
     in
     went-on _ _ _ _ (l .i) _ (l .inv) (the-record _ (l .i))
-    (spared _ _ _ _ _ call (test .before .counter .ensures) (test .if2 .taken) (c .below-a .ensures))
+    (spared _ _ _ _ _ call (test .before .counter .ensures) (test .if2 .taken) (c .counts-below-a .ensures))
     (completion-accepted _ _ call)
     (search needs)
 
@@ -185,7 +185,7 @@ run-spec =
     is-completion-requires
     command-requires
     counter-requires
-    below-a-requires
+    counts-below-a-requires
     add-i
     loop-less
     loop-again

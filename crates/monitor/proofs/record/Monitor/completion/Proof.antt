@@ -14,8 +14,8 @@ counter-requires c κs = search needs
 is-below-a-requires : tie.Need-is-below-a-requires
 is-below-a-requires c κs = search needs
 
-below-a-requires : tie.Need-below-a-requires
-below-a-requires c κs = search needs
+counts-below-a-requires : tie.Need-counts-below-a-requires
+counts-below-a-requires c κs = search needs
 
 cast-n : tie.Need-cast-n
 cast-n c = search needs
@@ -100,7 +100,7 @@ returns : tie.Need-returns
 returns c =
     let test = c .before .before .before in
     uncounted _ _ _ (fast-uncounted _ _ (sym (test .is-below-a .ensures) ∙ c .before .before .if1 .taken))
-    (c .below-a .ensures)
+    (c .counts-below-a .ensures)
 
 returns-2 : tie.Need-returns-2
 returns-2 c =
@@ -126,7 +126,7 @@ completion-spec =
     (tie.spec
     counter-requires
     is-below-a-requires
-    below-a-requires
+    counts-below-a-requires
     cast-n
     milliseconds-requires
     triggers-requires

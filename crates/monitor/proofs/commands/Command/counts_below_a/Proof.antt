@@ -1,11 +1,11 @@
--- `Command::below_a`: below threshold A, by the kind's number; and any other completion.
+-- `Command::counts_below_a`: below threshold A, by the kind's number; and any other completion.
 use mathlib.Core.Path.{sym, ap, _∙_}
 use Rattle.monitor.specs.Commands.{kindNumber}
 use Rattle.monitor.proofs.Counters.{counted-kind}
 use Rattle.monitor.proofs.commands.Laws.{below-a-kind}
 use borrow.Author.Needs.{needs}
-use Rattle.monitor.proofs.commands.Command.below_a.Statement.{statement}
-use Rattle.monitor.proofs.commands.Command.below_a.Tie as tie
+use Rattle.monitor.proofs.commands.Command.counts_below_a.Statement.{statement}
+use Rattle.monitor.proofs.commands.Command.counts_below_a.Tie as tie
 
 is-below-a-requires : tie.Need-is-below-a-requires
 is-below-a-requires c κs = search needs
@@ -29,7 +29,7 @@ returns c =
 returns-2 : tie.Need-returns-2
 returns-2 c = rw (below-a-kind _ _ _ (sym (c .before .is-below-a .ensures) ∙ c .if1 .left))
 
-pub below-a-spec : {M : Type 1} → statement M
-below-a-spec =
+pub counts-below-a-spec : {M : Type 1} → statement M
+counts-below-a-spec =
     tie.close
     (tie.spec is-below-a-requires kind-requires kind-number-requires counted-below-a-requires returns returns-2)
