@@ -81,6 +81,7 @@ pub record Completed : Type 0 where
   pub command : Command
   pub before : Past
 
+-- by whether the monitor is enabled at the place, and the kind of the command
 abbrev pub completedIf : Bool → Option ℕ → Command → Past → Option Completed
 completedIf enabled kind c past =
     found none (λ k. onlyIf enabled (record { kind = k; command = c; before = past })) kind
