@@ -78,7 +78,7 @@ pub struct Facts {
 /// The facts at the end of a history.
 pub fn facts(history: &[Call]) -> Facts {
     let completions = all_completions(history);
-    let [active, finished] = [Window::Active, Window::Static].map(|window| number_of(history, window));
+    let [active, ended] = [Window::Active, Window::Static].map(|window| number_of(history, window));
     let window = |number: Option<u64>| -> WindowFacts {
         std::array::from_fn(|counter| counter_facts(history, &completions, counter, number))
     };
@@ -86,10 +86,10 @@ pub fn facts(history: &[Call]) -> Facts {
         settings: in_force(history),
         timer: timer(history),
         active_window: window(active),
-        static_window: window(finished),
+        static_window: window(ended),
         debug_log: first_trigger(history, &completions).and_then(|c| Some((c.counter?, c.event(history)))),
         active_below_a: below_a(history, &completions, active),
-        static_below_a: below_a(history, &completions, finished),
+        static_below_a: below_a(history, &completions, ended),
     }
 }
 
