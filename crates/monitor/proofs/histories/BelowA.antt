@@ -12,6 +12,7 @@ use Rattle.logpage.specs.Fields.{from}
 use Rattle.monitor.specs.declared.report.WindowChoice.{WindowChoice}
 use Rattle.monitor.specs.declared.report.WindowChoice.the-variants.{Active, Static}
 use Rattle.monitor.specs.Commands.{kindOf}
+use Rattle.monitor.specs.Counting.{countTop}
 use Rattle.monitor.specs.Claims.{recordOf, BelowAShowsFacts, fiveCounts, FiveCountsAddUp}
 use Rattle.monitor.specs.Facts.{inForce, enablingIn, sum, Completed, completedIf, completedAt}
 use Rattle.monitor.specs.Facts.{sinceEnabled, Counted, countedOf, countedSince, filter, filterMap, isIn}
@@ -32,13 +33,17 @@ below-a-shows-facts h w = ap (countsBelowA w) (played-as-facts h) ∙ by w
     by Active = refl
     by Static = refl
 
+-- a completion, counted in a bucket
+abbrev in-its-counter : Completed → ℕ → Counted
+in-its-counter x b = record { counter = 3 * b + x .kind; command = x .command; before = x .before }
+
 -- an enabled completion of a kind is counted in one bucket, or below threshold A
 data FallsIn (x : Completed) : Type 0 where
   in-bucket :
       (b : ℕ) →
       b < 4 →
       isFast x ≡ false →
-      countedOf x ≡ some (record { counter = 3 * b + x .kind; command = x .command; before = x .before }) →
+      countedOf x ≡ some (in-its-counter x b) →
       FallsIn x
   below-a : isFast x ≡ true → countedOf x ≡ none → FallsIn x
 
@@ -143,9 +148,9 @@ module _ (t : Past → Bool) (k : ℕ) (few : k < 3) where
         (b : ℕ) →
         b < 4 →
         isFast x ≡ false →
-        AddUp (x ∷ xs) (record { counter = 3 * b + x .kind; command = x .command; before = x .before } ∷ ys)
+        AddUp (x ∷ xs) (in-its-counter x b ∷ ys)
     add-slow low b there reached =
-        let y : Counted = record { counter = 3 * b + x .kind; command = x .command; before = x .before } in
+        let y = in-its-counter x b in
         let none-below : one (fast-of-kind x) ≡ 0 = rw (reached, and-false (of-kind x)) in
         let at : (j : ℕ) → one (of-bucket j y) ≡ one (t (x .before) && (eqb b j && eqb (x .kind) k)) =
         λ j. ap (λ q. one (t (x .before) && q)) (same-counter b (x .kind) j k low few) in
@@ -199,7 +204,7 @@ described-five past w k few = λ i. by w i ∷ from-same 0 4 _ _ (slow-at w) i
 module _ (past : Past) (w : WindowChoice) (k : ℕ) (few : k < 3) where
   -- a list of counts whose entries are below their top adds up
   abbrev Sums : List ℕ → Type 0
-  Sums counts = All (λ count. count < 4294967295) counts → sum counts ≡ length (ofKind w past k)
+  Sums counts = All (λ count. count < countTop) counts → sum counts ≡ length (ofKind w past k)
 
   five-add-up : Sums (five w past k)
   unfolding sum countOf from ofKind ofKindBelowA

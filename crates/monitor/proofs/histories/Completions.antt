@@ -20,7 +20,7 @@ use Rattle.monitor.specs.Facts.{inForce, clockAt, hostSetAt, timerThresh
 use Rattle.monitor.specs.Facts.{Completed, completedIf, completedAt, sinceEnabled, Counted, countedOf}
 use Rattle.monitor.specs.Facts.{countedAt, countedSince, filter, filterMap, counterIn, active, static, countOf}
 use Rattle.monitor.specs.Facts.{ofKindBelowA, belowACounts}
-use Rattle.monitor.specs.Facts.{loadsAfter, orLoad, lastLoad, stampOf, latencyOf, windowFrom}
+use Rattle.monitor.specs.Facts.{isFast, loadsAfter, orLoad, lastLoad, stampOf, latencyOf, windowFrom}
 use Rattle.monitor.specs.Facts.{discardIn, triggered, orEarliest, earliest, logOf, debugAt}
 use Rattle.monitor.specs.History.{completed, Past, found, andThen, latest, since}
 use Rattle.monitor.specs.Record.{afterCompletion}
@@ -197,7 +197,9 @@ module _ (past : Past) (c : Command) (kind : ℕ) where
   slow-kept reached = λ i. from 0 3 (λ k. countOf (by k i))
     where
       by : (k : ℕ) → ofKindBelowA Active past k ≡ fast-joined k
-      by k = rw (reached, and-false (eqb (windowAt past) (windowAt past) && eqb kind k))
+      by k =
+          let not-fast : isFast here-completed ≡ false = reached in
+          rw (not-fast, and-false (eqb (windowAt past) (windowAt past) && eqb kind k))
 
   fast-more :
       kind < 3 →
