@@ -50,11 +50,11 @@ static void complete_a_fast_read(void)
 static void compare_reads(void)
 {
     const struct latency_monitor_below_a active = latency_monitor_active_below_a(&monitor);
-    const struct latency_monitor_below_a finished = latency_monitor_static_below_a(&monitor);
+    const struct latency_monitor_below_a ended = latency_monitor_static_below_a(&monitor);
 
     expect(monitor.active_window.counters[0] == 1, "the record shows the Read");
     expect(active.read == 1 && active.write == 0 && active.deallocate == 0, "one of two Reads was below threshold A");
-    expect(finished.read == 0 && finished.write == 0 && finished.deallocate == 0, "no window has ended");
+    expect(ended.read == 0 && ended.write == 0 && ended.deallocate == 0, "no window has ended");
 }
 
 /* The record is kept with its version, and copied back after the power cycle. */

@@ -58,13 +58,13 @@ fn in_both_windows() -> Monitor {
 }
 
 /// The counts by both calls, in either order, and in the record, which the calls leave.
-fn assert_counts(monitor: &Monitor, active: [u32; 3], finished: [u32; 3]) {
+fn assert_counts(monitor: &Monitor, active: [u32; 3], ended: [u32; 3]) {
     let before = *monitor.as_bytes();
-    let due = [active, finished].map(|[read, write, deallocate]| BelowA { read, write, deallocate });
+    let due = [active, ended].map(|[read, write, deallocate]| BelowA { read, write, deallocate });
     assert_eq!([monitor.active_below_a(), monitor.static_below_a()], due);
     let [finished_first, then_active] = [monitor.static_below_a(), monitor.active_below_a()];
     assert_eq!([then_active, finished_first], due);
-    assert_eq!([monitor.record().active_below_a, monitor.record().static_below_a], [active, finished]);
+    assert_eq!([monitor.record().active_below_a, monitor.record().static_below_a], [active, ended]);
     assert_eq!(*monitor.as_bytes(), before);
 }
 
