@@ -1,7 +1,7 @@
 #!/usr/bin/env bash
-# Measures the calls of the product's archive beside the monitor in C: time, instructions, sizes and stack.
+# Measures the calls of the product's archive beside the monitor in C: time, instructions, record and stack.
 #   bench/calls.sh [ROUNDS]
-# Fails if answers, pages, what is read of them, or settings given back differ, or if the archive has data of its own.
+# Fails if answers, pages, what is read of them, or settings given back differ.
 set -euo pipefail
 top=$(cd "$(dirname "$0")/.." && pwd)
 bench=$top/bench
@@ -57,17 +57,6 @@ with_instructions() {
     done
 }
 
-# bytes PATTERN FILE: of the sections whose names match.
-bytes() {
-    size -A "$2" | awk -v pattern="$1" '$1 ~ pattern { sum += $2 } END { print sum + 0 }'
-}
-
-# sections NAME PATTERN: their bytes on each side.
-sections() {
-    printf '%s\t%d\t%d\t%d\n' "$1" "$(bytes "$2" "$archive")" "$(bytes "$2" in_place_O2.o)" \
-        "$(bytes "$2" in_place_O3.o)"
-}
-
 # frame CALL: what its code takes of the stack, by objdump: return address, pushes, and steps of the stack pointer.
 frame() {
     local line bytes=8
@@ -107,12 +96,6 @@ with_instructions < measured | table 'Call' 'ns' 'C -O2' 'C -O3' 'ratio' 'smalle
     'instr.' 'C -O2' 'C -O3' 'ratio'
 awk -F '\t' '{ ns[$1] = $2 }
     END { printf "read_page takes %.2f times as long as page.\n\n", ns["read_page"] / ns["page"] }' measured
-{
-    printf 'record\t%s\n' "$(./calls record)"
-    sections 'code' '^[.]text'
-    sections 'constants' '^[.]rodata'
-    sections 'data' '^[.]t?(data|bss)'
-} | table 'Bytes' 'product' 'C -O2' 'C -O3'
+printf 'record\t%s\n' "$(./calls record)" | table 'Bytes' 'product' 'C -O2' 'C -O3'
 ./calls stack | with_frame | with_most | table 'Stack, bytes' 'product' 'C -O2' 'C -O3' 'frame'
 echo "The archive asks for: $(nm -u "$archive" | awk 'NF == 2 { print $2 }' | sort -u | paste -sd ' ')"
-[ "$(bytes '^[.]t?(data|bss)' "$archive")" -eq 0 ] || { echo 'calls: the archive has data of its own' >&2; exit 1; }

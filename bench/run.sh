@@ -1,8 +1,10 @@
 #!/usr/bin/env bash
-# Measures the product beside C: its calls, then its page program.
+# Measures the product beside C: its calls, its page program, then its sizes.
 #   bench/run.sh [ROUNDS]
 set -euo pipefail
 bench=$(cd "$(dirname "$0")" && pwd)
 "$bench/calls.sh" "$@"
 echo
 "$bench/page.sh" "$@"
+echo
+"$bench/sizes.sh"

@@ -38,7 +38,7 @@ fn read_counters(block: &[u8]) -> [u32; 12]
     counters
 }
 
-// The table is taken once: in a loop it would be made anew at each turn.
+// The table is taken once: this loop would make it anew at each turn.
 fn read_stamps(block: &[u8]) -> [u64; 12]
     requires { ⌜ length (now block) ≡ 186 ⌝ }
     ensures { λ r. ⌜ r ≡ each (λ n. number (part (stampPlace n) 8 (now (block .entry)))) ⌝ }
@@ -58,11 +58,10 @@ fn read_latencies(block: &[u8]) -> [u16; 12]
     requires { ⌜ length (now block) ≡ 186 ⌝ }
     ensures { λ r. ⌜ r ≡ each (λ n. number (part (latencyPlace n) 2 (now (block .entry)))) ⌝ }
 {
-    let places = block::LATENCIES_AT;
     let mut latencies = [0; 12];
     let mut n = 0;
     while n < 12 {
-        let at = places[n];
+        let at = block::latency_place(n);
         latencies[n] = endian::load(&block[at..at + block::LATENCY]) as u16;
         n += 1;
     }

@@ -18,28 +18,30 @@ use Rattle.logpage.specs.BlockReader.{windowIn, counterFits, windowFits,
 use Rattle.logpage.specs.Fields.{unset, windowOf, from, each}
 use Rattle.logpage.specs.declared.Window.{Window}
 
--- an array of twelve: what is left, stored from here, gives the whole
+-- the field of each counter in a block, by its place and width
+abbrev pub fieldOf : (place : ℕ → ℕ) (width : ℕ) → List ℕ → ℕ → ℕ
+fieldOf place width block n = number (part (place n) width block)
+
+-- an array of twelve that is filled up to n: what is left, stored from there, gives the whole
+abbrev pub Filled : {A : Type 0} → (ℕ → A) → ℕ → List A → Type 0
+Filled f n l = (n ≤ 12) × (sets l n (from n (12 - n) f) ≡ each f)
+
 module _ {A : Type 0} (f : ℕ → A) where
-  pub fill-start : (l : List A) → length l ≡ 12 → sets l 0 (from 0 (12 - 0) f) ≡ each f
+  pub fill-start : (l : List A) → length l ≡ 12 → Filled f 0 l
   unfolding from
-  fill-start l h = sets-whole l (each f) (rw h)
+  fill-start l h = (omega arith, sets-whole l (each f) (rw h))
 
-  pub fill-more :
-      (l goal : List A) (n : ℕ) (x : A) →
-      n < 12 →
-      x ≡ f n →
-      sets l n (from n (12 - n) f) ≡ goal →
-      sets (set l n x) (n + 1) (from (n + 1) (12 - (n + 1)) f) ≡ goal
+  pub fill-more : (l : List A) (n : ℕ) (x : A) → n < 12 → x ≡ f n → Filled f n l → Filled f (n + 1) (set l n x)
   unfolding from
-  fill-more l goal n x h e k =
+  fill-more l n x h e k =
       let p : 12 - n ≡ suc (12 - suc n) = omega arith in
-      rw (add-one, e) (rw p at k)
+      (omega arith, rw (add-one, e) (rw p at (k .1)))
 
-  pub fill-end : (l goal : List A) (n : ℕ) → 12 ≤ n → sets l n (from n (12 - n) f) ≡ goal → l ≡ goal
+  pub fill-end : (l : List A) (n : ℕ) → 12 ≤ n → Filled f n l → l ≡ each f
   unfolding from
-  fill-end l goal n h k =
+  fill-end l n h k =
       let p : 12 - n ≡ 0 = omega arith in
-      rw p at k
+      rw p at (k .1)
 
 -- the flags of a mask, from the lowest on
 pub flags-start : (l : List Bool) (mask : ℕ) → length l ≡ 12 → sets l 0 (flags (12 - 0) mask) ≡ flags 12 mask

@@ -1,68 +1,45 @@
 -- `read_latencies`: what is left, stored from here, gives all twelve.
-use mathlib.Core.Path.{_≡_}
-use Prim.Native.Nat.{_≤_, _-_}
+use Prim.Native.Nat.{_-_}
 use native.Mathlib.Omega.{arith}
 use borrow.Author.Needs.{needs}
-use lib.Seq.{sets}
-use Rattle.endian.specs.Loads.{number, part}
 use Rattle.endian.proofs.Numbers.{loaded, loaded-fits}
 use Rattle.logpage.specs.Block.{latencyPlace}
-use Rattle.logpage.specs.Fields.{from, each}
-use Rattle.logpage.proofs.block_reader.Laws.{fill-start, fill-more, fill-end}
-use Rattle.logpage.proofs.Table.{by-rule}
+use Rattle.logpage.proofs.block_reader.Laws.{fieldOf, Filled, fill-start, fill-more, fill-end}
 use Rattle.logpage.proofs.block_reader.read_latencies.Statement.{statement}
 use Rattle.logpage.proofs.block_reader.read_latencies.Tie as tie
 
 abbrev Inv-loop : tie.InvT-loop
-Inv-loop block places latencies₀ n₀ latencies n =
-    (n ≤ 12) × (sets latencies n (from n (12 - n) (λ k. number (part (latencyPlace k) 2 block))) ≡
-    each (λ k. number (part (latencyPlace k) 2 block)))
+Inv-loop block latencies₀ n₀ latencies n = Filled (fieldOf latencyPlace 2 block) n latencies
 
 abbrev μ-loop : tie.MeasureT-loop
-μ-loop block places latencies₀ n₀ latencies n = 12 - n
+μ-loop block latencies₀ n₀ latencies n = 12 - n
 
 loop-holds : tie.Need-loop-holds Inv-loop μ-loop
-loop-holds c =
-    let block = c .before .args .block .now in
-    (search needs, fill-start (λ k. number (part (latencyPlace k) 2 block)) _ (search needs))
+loop-holds c = fill-start _ _ (search needs)
 
-mul-at : tie.Need-mul-at Inv-loop μ-loop
-mul-at c = search needs
-
-array-read-at : tie.Need-array-read-at Inv-loop μ-loop
-array-read-at c = search needs
+latency-place-requires : tie.Need-latency-place-requires Inv-loop μ-loop
+latency-place-requires c κs = search needs
 
 add-load : tie.Need-add-load Inv-loop μ-loop
-add-load c =
-    let n = c .before .loop .n in
-    omega (arith, by-rule latencyPlace 12 n (search needs))
+add-load c = search needs
 
 sub-load : tie.Need-sub-load Inv-loop μ-loop
-sub-load c =
-    let n = c .before .loop .n in
-    omega (arith, by-rule latencyPlace 12 n (search needs))
+sub-load c = search needs
 
 part-load-start : tie.Need-part-load-start Inv-loop μ-loop
-part-load-start c =
-    let n = c .before .loop .n in
-    omega (arith, by-rule latencyPlace 12 n (search needs))
+part-load-start c = search needs
 
 part-load-end : tie.Need-part-load-end Inv-loop μ-loop
-part-load-end c =
-    let n = c .before .loop .n in
-    omega (arith, by-rule latencyPlace 12 n (search needs))
+part-load-end c = search needs
 
 load-requires : tie.Need-load-requires Inv-loop μ-loop
 load-requires c κs = search needs
 
 cast-latencies : tie.Need-cast-latencies Inv-loop μ-loop
 cast-latencies c =
-    let at-loop = c .before .before .before in
-    let block = at-loop .before .before .args .block .now in
-    let n = at-loop .loop .n in
-    let bytes = at-loop .before .shared-slice-known .given in
-    let place = by-rule latencyPlace 12 n (search needs) in
-    omega (arith, loaded-fits block _ _ 2 _ place (omega arith) (c .load .ensures) (λ k. omega (arith, bytes k)))
+    let block-bytes = c .before .before .before .before .before .shared-slice-known .given in
+    let place = c .before .before .latency-place .ensures in
+    omega (arith, loaded-fits _ _ _ 2 _ place (omega arith) (c .load .ensures) (λ k. omega (arith, block-bytes k)))
 
 mul-latencies : tie.Need-mul-latencies Inv-loop μ-loop
 mul-latencies c = search needs
@@ -78,21 +55,12 @@ loop-less c = search needs
 
 loop-again : tie.Need-loop-again Inv-loop μ-loop
 loop-again c =
-    let at-loop = c .before .before .before in
-    let block = at-loop .before .before .args .block .now in
-    let n = at-loop .loop .n in
-    let place = by-rule latencyPlace 12 n (search needs) in (
-      search needs,
-      fill-more (λ k. number (part (latencyPlace k) 2 block)) _ _ n _ (search needs)
-          (loaded block _ _ 2 _ place (omega arith) (c .load .ensures))
-          (at-loop .loop .inv .1),
-    )
+    let at-loop = c .before .before .before .before in
+    let place = c .before .before .latency-place .ensures in
+    fill-more _ _ _ _ (search needs) (loaded _ _ _ 2 _ place (omega arith) (c .load .ensures)) (at-loop .loop .inv)
 
 returns : tie.Need-returns Inv-loop μ-loop
-returns c =
-    let block = c .before .before .before .args .block .now in
-    let l = c .before .loop in
-    fill-end (λ k. number (part (latencyPlace k) 2 block)) _ _ (l .n) (search needs) (l .inv .1)
+returns c = fill-end _ _ _ (search needs) (c .before .loop .inv)
 
 pub read-latencies-spec : {M : Type 1} → statement M
 read-latencies-spec =
@@ -101,8 +69,7 @@ read-latencies-spec =
     Inv-loop
     μ-loop
     loop-holds
-    mul-at
-    array-read-at
+    latency-place-requires
     add-load
     sub-load
     part-load-start
