@@ -1,6 +1,6 @@
 -- Laws of the block's reader: arrays filled one by one, and tests asked one by one.
 use mathlib.Core.Bool.{Bool, true, false, not, cond, _&&_, _||_}
-use mathlib.Core.List.{List, [], _∷_}
+use mathlib.Core.List.{List}
 use mathlib.Core.Path.{_≡_, refl}
 use Prim.Native.Nat.{ℕ, suc, _+_, _-_, _/_, _%_, _<_, _≤_}
 use native.Mathlib.Numerals.{add-one}
@@ -113,9 +113,9 @@ counter-kept counter stamp latency unit = by (eqb stamp unset) refl
 -- the arrays that were read by their places are those of the window
 pub block-read :
     (block counters stamps latencies : List ℕ) (mask : ℕ) (units : List Bool) →
-    counters ≡ each (λ n. number (part (counterPlace n) 4 block)) →
-    stamps ≡ each (λ n. number (part (stampPlace n) 8 block)) →
-    latencies ≡ each (λ n. number (part (latencyPlace n) 2 block)) →
+    counters ≡ each (fieldOf counterPlace 4 block) →
+    stamps ≡ each (fieldOf stampPlace 8 block) →
+    latencies ≡ each (fieldOf latencyPlace 2 block) →
     mask ≡ number (part 184 2 block) →
     units ≡ flags 12 mask →
     windowOf counters stamps latencies units ≡ windowIn block
