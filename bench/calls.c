@@ -95,13 +95,17 @@ static uint32_t draw(uint32_t from_zero_to_below)
 /* 5, 160, 320 and 480 ms: each bucket has room for a lap's rise, 1 ms at a time. */
 static const uint8_t thresholds[4] = {0, 31, 63, 95};
 
-static const uint8_t opcodes[KINDS] = {0x02, 0x01, 0x09};
+/* A command of each kind. */
+static const struct latency_monitor_command kinds[KINDS] = {
+    {.opcode = 0x02}, {.opcode = 0x01}, {.opcode = 0x09, .deallocate = true}
+};
 
 static struct latency_monitor_command command_for(int counter, uint32_t above_us)
 {
-    uint32_t threshold_us = 5000 * (thresholds[counter / 3] + 1u);
+    struct latency_monitor_command command = kinds[counter % 3];
 
-    return (struct latency_monitor_command){.latency = threshold_us + above_us, .opcode = opcodes[counter % 3]};
+    command.latency = 5000 * (thresholds[counter / 3] + 1u) + above_us;
+    return command;
 }
 
 static struct named_settings settings_of(uint16_t timer_threshold, uint16_t mode, uint16_t trigger, bool enable)
@@ -188,7 +192,7 @@ static void make_ready(const struct side *side, uint16_t mode)
         side->once(&(struct stroke){.call = COMPLETION, .command = each_counter[n]});
     for (int kind = 0; kind < KINDS; kind++)
         for (int i = 0; i <= kind; i++)
-            side->once(&(struct stroke){.call = COMPLETION, .command = {.opcode = opcodes[kind]}});
+            side->once(&(struct stroke){.call = COMPLETION, .command = kinds[kind]});
 }
 
 /* Each call did what its case is about, and none was turned away. */
@@ -209,21 +213,27 @@ static void check_below_a(const char *name)
     }
 }
 
+/* All sides answer alike, and then have the same counts below A. */
 static void play_alike(struct stroke stroke)
 {
-    for (int s = 0; s < SIDES; s++)
-        sides[s]->once(&stroke);
+    uint64_t answer = sides[0]->once(&stroke);
+
+    for (int s = 1; s < SIDES; s++)
+        if (sides[s]->once(&stroke) != answer)
+            fail("completion", "the answers differ");
     check_below_a("completion");
 }
 
-/* Every opcode, just below A and at A. */
+/* Every opcode, without the deallocate attribute and with it, just below A and at A. */
 static void complete_alike(void)
 {
     uint32_t a_us = command_for(0, 0).latency;
 
     for (int opcode = 0; opcode < 256; opcode++)
-        for (uint32_t us = a_us - 1; us <= a_us; us++)
-            play_alike((struct stroke){.call = COMPLETION, .command = {.latency = us, .opcode = (uint8_t)opcode}});
+        for (int deallocate = 0; deallocate < 2; deallocate++)
+            for (uint32_t us = a_us - 1; us <= a_us; us++)
+                play_alike((struct stroke){.call = COMPLETION,
+                    .command = {.latency = us, .opcode = (uint8_t)opcode, .deallocate = deallocate}});
 }
 
 /* The counts below A in a window, after its end, disabled, and enabled again. */

@@ -7,6 +7,9 @@ enum { INCREMENT_MS = 300000, NAMED_SETTINGS = 13, VERSION = 4 };
 
 #define CLOCK_TOP UINT64_C(0xFFFFFFFFFFFF)
 
+/* A command as a number: its opcode, and DEALLOCATE more with the deallocate attribute or bit. */
+enum { WRITE = 0x01, READ = 0x02, WRITE_ZEROES = 0x08, DATASET_MANAGEMENT = 0x09, DEALLOCATE = 0x100 };
+
 /* The place of a field's lowest bit in the answer to a completion. */
 #define AT(field) (8 * offsetof(struct latency_monitor_completion_answer, field))
 
@@ -149,19 +152,20 @@ static bool debug(struct in_place *m, unsigned n, uint16_t ms)
 }
 
 /* The answer as a number: that is made in a register, where gcc takes a small struct through memory. */
-static uint64_t completed(struct in_place *m, uint8_t opcode, uint32_t us)
+static uint64_t completed(struct in_place *m, uint16_t command, uint32_t us)
 {
-    /* By opcode, and no branch: no processor can guess the kind of the next command. */
-    static const uint8_t kinds[10] = {KINDS, 1, 0, KINDS, KINDS, KINDS, KINDS, KINDS, KINDS, 2};
+    /* Kinds, from 1 on, by command, and no branch: no processor can guess the kind of the next one. */
+    static const uint8_t kinds[] = {
+        [READ] = 1, [READ + DEALLOCATE] = 1, [WRITE] = 2, [WRITE + DEALLOCATE] = 2,
+        [WRITE_ZEROES + DEALLOCATE] = 3, [DATASET_MANAGEMENT + DEALLOCATE] = 3
+    };
     uint32_t ms = us / 1000;
     unsigned kind, bucket = 3, n;
     uint64_t loaded, logged;
 
-    if (!m->enabled || opcode >= sizeof kinds)
+    if (!m->enabled || (uint8_t)command > DATASET_MANAGEMENT || kinds[command] == 0)
         return 0;
-    kind = kinds[opcode];
-    if (kind == KINDS)
-        return 0;
+    kind = kinds[command] - 1u;
     if (us < m->threshold_us[0]) {
         m->active_below_a[kind] += m->active_below_a[kind] != UINT32_MAX;
         return 0;
@@ -180,10 +184,12 @@ static uint64_t completed(struct in_place *m, uint8_t opcode, uint32_t us)
 struct latency_monitor_completion_answer in_place_completion(
     struct in_place *m, struct latency_monitor_command command)
 {
+    /* The attribute is the byte after the opcode. */
+    const uint8_t *opcode = (const uint8_t *)&command + offsetof(struct latency_monitor_command, opcode);
     union {
         uint64_t number;
         struct latency_monitor_completion_answer answer;
-    } u = {completed(m, command.opcode, command.latency)};
+    } u = {completed(m, get16(opcode), command.latency)};
 
     return u.answer;
 }

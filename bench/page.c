@@ -31,17 +31,26 @@ static int configure(struct in_place *m, const uint8_t *named)
     return in_place_configure(m, settings, sizeof settings);
 }
 
-/* One record: what it leaves unnamed is tested in its two halves. */
+/* A record has the attribute after the opcode, as a command has. */
+static int complete(struct in_place *m, const uint8_t *record, uint32_t us)
+{
+    struct latency_monitor_command command = {.latency = us};
+
+    memcpy((uint8_t *)&command + offsetof(struct latency_monitor_command, opcode), record + 1, 2);
+    in_place_completion(m, command);
+    return LATENCY_MONITOR_ACCEPTED;
+}
+
+/* One record: what it leaves unnamed is tested in its two halves, with a completion's attribute, which is 0 or 1. */
 static int event(struct in_place *m, const uint8_t *record)
 {
     uint64_t low = get64(record), high = get64(record + 8);
 
     switch (record[0]) {
     case COMPLETION:
-        if ((low & 0xFFFF0000) | high)
+        if ((low & 0xFFFE0000) | high)
             return UNNAMED;
-        in_place_completion(m, (struct latency_monitor_command){.latency = (uint32_t)(low >> 32), .opcode = record[1]});
-        return LATENCY_MONITOR_ACCEPTED;
+        return complete(m, record, (uint32_t)(low >> 32));
     case ELAPSED:
         if ((low & 0xFFFFFF00) | high)
             return UNNAMED;

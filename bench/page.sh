@@ -3,7 +3,7 @@
 # refused.
 #   bench/page.sh [ROUNDS]
 # Prints the median processor time of each and the ratio of throughputs (the page program's to C's), and fails if what
-# they print differs.
+# they print differs, there or for an event file of the vectors.
 set -euo pipefail
 top=$(cd "$(dirname "$0")/.." && pwd)
 ROUNDS=${1:-31}
@@ -19,6 +19,11 @@ gcc -O2 -flto -Wall -Wextra -Werror -pedantic -I "$top/include" -o c "$top/bench
 cargo build --release --quiet --offline --manifest-path "$top/reference/Cargo.toml" --target-dir target
 target/release/reference mixed "$MIXED" > mixed
 head -c "$REFUSED" /dev/zero > refused # no record is of kind 0
+
+target/release/reference files vectors
+for events in vectors/*.events; do
+    cmp <(./c < "$events") <("$top/target/bin/page" < "$events") || { echo "page: $events" >&2; exit 1; }
+done
 
 # run NAME PROGRAM EVENTS: runs it once, and adds the milliseconds of processor time that it took to a file.
 run() {

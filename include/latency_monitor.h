@@ -141,10 +141,15 @@ struct latency_monitor_reading {
     uint8_t debug_counter; /* the debug log's counter, 0 to 11; 0 if none is held */
 };
 
-/* A completed command. */
+/*
+ * A completed command. Opcode 02h is Read and 01h is Write; 09h (Dataset Management) and 08h (Write Zeroes) are
+ * Deallocate if they have the deallocate attribute or bit, and are not counted without it. An initialiser that leaves
+ * the field out brings none.
+ */
 struct latency_monitor_command {
     uint32_t latency; /* in microseconds */
     uint8_t opcode;
+    bool deallocate;  /* attribute of Dataset Management, bit of Write Zeroes; not asked of other commands */
 };
 
 /* The answer to a completion. */
@@ -275,6 +280,7 @@ LATENCY_MONITOR_AT(latency_monitor_reading, debug_counter, 401);
 LATENCY_MONITOR_SIZE(latency_monitor_command, 8);
 LATENCY_MONITOR_AT(latency_monitor_command, latency, 0);
 LATENCY_MONITOR_AT(latency_monitor_command, opcode, 4);
+LATENCY_MONITOR_AT(latency_monitor_command, deallocate, 5);
 
 LATENCY_MONITOR_SIZE(latency_monitor_completion_answer, 6);
 LATENCY_MONITOR_AT(latency_monitor_completion_answer, counter, 0);

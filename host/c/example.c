@@ -1,5 +1,5 @@
-/* Document 01's example as firmware would play it, with a fast Read and a power cycle: prints the page as the page
- * program does, and reads it as a lab tool would. */
+/* Document 01's example as firmware would play it, with what no page shows and a power cycle: prints the page as the
+ * page program does, and reads it as a lab tool would. */
 
 #include <stdio.h>
 #include <stdlib.h>
@@ -39,21 +39,31 @@ static void complete_a_read(void)
     expect(answer.debug, "a debug log is taken");
 }
 
-/* No counter has it, and no page shows it. */
-static void complete_a_fast_read(void)
+static void complete_without_a_counter(struct latency_monitor_command command, const char *what)
 {
-    const struct latency_monitor_command command = {.opcode = 0x02, .latency = 300};
-
-    expect(!latency_monitor_completion(&monitor, command).counted, "a Read below threshold A has no counter");
+    expect(!latency_monitor_completion(&monitor, command).counted, what);
 }
 
-static void compare_reads(void)
+/* No counter has them, and no page shows them. */
+static void complete_others(void)
+{
+    const struct latency_monitor_command read = {.opcode = 0x02, .latency = 300};
+    const struct latency_monitor_command write_zeroes = {.opcode = 0x08, .deallocate = true, .latency = 300};
+    const struct latency_monitor_command hint = {.opcode = 0x09, .deallocate = false, .latency = 7500};
+
+    complete_without_a_counter(read, "a Read below threshold A has no counter");
+    complete_without_a_counter(write_zeroes, "nor has a Deallocate below it");
+    complete_without_a_counter(hint, "Dataset Management without its attribute is no Deallocate");
+}
+
+static void compare_counts(void)
 {
     const struct latency_monitor_below_a active = latency_monitor_active_below_a(&monitor);
     const struct latency_monitor_below_a ended = latency_monitor_static_below_a(&monitor);
 
     expect(monitor.active_window.counters[0] == 1, "the record shows the Read");
-    expect(active.read == 1 && active.write == 0 && active.deallocate == 0, "one of two Reads was below threshold A");
+    expect(active.read == 1 && active.write == 0, "one of two Reads was below threshold A");
+    expect(active.deallocate == 1, "the Deallocate was below threshold A");
     expect(ended.read == 0 && ended.write == 0 && ended.deallocate == 0, "no window has ended");
 }
 
@@ -115,9 +125,9 @@ int main(void)
     elapsed = latency_monitor_elapsed(&monitor, 1000);
     expect(elapsed.refusal == LATENCY_MONITOR_ACCEPTED && !elapsed.ended, "the active window goes on");
     complete_a_read();
-    complete_a_fast_read();
+    complete_others();
     power_cycle();
-    compare_reads();
+    compare_counts();
 
     expect(latency_monitor_page(&monitor, page, sizeof page) == LATENCY_MONITOR_ACCEPTED, "the page");
     expect(latency_monitor_page(&monitor, page, 511) == LATENCY_MONITOR_PAGE_LENGTH_WRONG, "a page of 511 bytes");

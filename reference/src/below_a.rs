@@ -3,15 +3,12 @@
 use crate::events::Events;
 use crate::facts::BELOW_A;
 use crate::groups::{
-    base, breaking, each_counter, each_kind, plain, random_event, start, with_presets, DEALLOCATE, KINDS, LARGEST,
-    READ, WRITE,
+    base, breaking, each_counter, each_kind, plain, random_event, start, with_presets, BELOW, DEALLOCATE, KINDS,
+    LARGEST, READ, WRITE, WRITE_ZEROES,
 };
 use crate::history::{Settings, TIMESTAMP_TOP};
 use crate::random::Random;
 use crate::vectors::EventVector;
-
-/// A latency just below A, with thresholds 0, 1, 3, 9.
-const BELOW: u32 = 4_999;
 
 pub fn vectors() -> Vec<EventVector> {
     let mut files = edges();
@@ -32,10 +29,8 @@ fn edges() -> Vec<Events> {
         files.extend([0, a - 1, a, a + 1].map(|us| each_kind(start(settings), us)));
         files.push([a, 0, a - 1, u32::MAX, a + 1].into_iter().fold(start(settings), each_kind));
     }
-    // Each kind alone, and every opcode.
+    // Each kind alone.
     files.extend(KINDS.map(|kind| start(base()).completion(kind, BELOW)));
-    let all = (0..=255).fold(start(base()), |f, opcode| f.completion(opcode, BELOW));
-    files.push(each_kind(all, 0));
     // A count beyond one byte.
     files.push((0..260).fold(start(base()), |f, _| f.completion(WRITE, BELOW)));
     // Mode, minimum window and trigger have no part in it.
@@ -140,7 +135,7 @@ fn mixtures(random: &mut Random) -> Vec<Events> {
         for _ in 0..random.from(20, 60) {
             let us = 5_000 * (u32::from(a) + 1) - 3 + random.below(5) as u32;
             file = match random.below(20) {
-                0..=14 => file.completion(random.pick(&[READ, READ, WRITE, DEALLOCATE, 0x08]), us),
+                0..=14 => file.completion(random.pick(&[READ, READ, WRITE, DEALLOCATE, WRITE_ZEROES]), us),
                 15..=17 => file.elapsed(random.pick(&[100_000, 299_999, 300_000])),
                 18 => file.settings(Settings { enable: u8::from(random.chance(70)), ..settings }),
                 _ => random_event(random, file),
@@ -156,7 +151,7 @@ fn at_their_top() -> Vec<EventVector> {
     let mut vectors = Vec::new();
     let mut add = |file: Events, presets: &[(usize, u32, u32)]| vectors.push(with_presets(file, presets));
     let short = Settings { timer_threshold: 1, ..base() };
-    for (kind, opcode) in KINDS.into_iter().enumerate() {
+    for (kind, command) in KINDS.into_iter().enumerate() {
         let count = BELOW_A + kind;
         for value in [top - 1, top] {
             // It goes on up to its top, and the others beside it.
@@ -164,14 +159,14 @@ fn at_their_top() -> Vec<EventVector> {
             add(file.clone(), &[(count, value, 7)]);
             add(each_kind(file.clone(), BELOW), &[(count, value, 7)]);
             // Moved at the window's end, and the next window starts from zero.
-            let file = file.completion(opcode, 0).elapsed(300_000);
+            let file = file.completion(command, 0).elapsed(300_000);
             add(file.clone(), &[(count, value, 7)]);
-            add(file.completion(opcode, BELOW).completion(opcode, BELOW), &[(count, value, 7), (count, value, 22)]);
+            add(file.completion(command, BELOW).completion(command, BELOW), &[(count, value, 7), (count, value, 22)]);
         }
         // Enabling settings empty it, others keep it.
         for enable in [0, 1] {
-            let file = start(short).completion(opcode, BELOW).settings(Settings { enable, ..short });
-            add(file.completion(opcode, BELOW), &[(count, top, 2)]);
+            let file = start(short).completion(command, BELOW).settings(Settings { enable, ..short });
+            add(file.completion(command, BELOW), &[(count, top, 2)]);
         }
     }
     // With all twelve counters.

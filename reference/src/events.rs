@@ -1,7 +1,7 @@
 //! Event files: records of 16 bytes, read as calls, and a writer for them.
 
 use crate::answers::{answers, Answer};
-use crate::history::{refusal, Call, Settings};
+use crate::history::{refusal, Call, Command, Settings};
 use crate::page::{page, page_text};
 
 pub const RECORD: usize = 16;
@@ -17,7 +17,7 @@ pub struct Refused {
 fn named(kind: u8) -> Option<Vec<usize>> {
     match kind {
         1 => Some((1..=13).collect()),
-        2 => Some(vec![1, 4, 5, 6, 7]),
+        2 => Some(vec![1, 2, 4, 5, 6, 7]),
         3 => Some((4..=7).collect()),
         4 => Some((4..=11).collect()),
         5 => Some(vec![]),
@@ -36,11 +36,17 @@ fn call(record: &[u8]) -> Option<Call> {
     if unnamed(record[0])?.iter().any(|&place| record[place] != 0) {
         return None;
     }
+    if record[0] == 2 && record[2] > 1 {
+        return None;
+    }
     let low = u32::from_le_bytes(record[4..8].try_into().unwrap());
     let long = u64::from_le_bytes(record[4..12].try_into().unwrap());
     Some(match record[0] {
         1 => Call::Settings(Settings::from_bytes(&record[1..14]).to_buffer()),
-        2 => Call::Completion { opcode: record[1], latency_us: low },
+        2 => {
+            let command = Command { opcode: record[1], deallocate: record[2] == 1 };
+            Call::Completion { command, latency_us: low }
+        }
         3 => Call::Elapsed(low),
         4 => Call::Timestamp(long),
         _ => Call::PowerUp,
@@ -118,10 +124,11 @@ impl Events {
         self.raw(&record)
     }
 
-    pub fn completion(self, opcode: u8, latency_us: u32) -> Events {
+    pub fn completion(self, command: Command, latency_us: u32) -> Events {
         let mut record = [0; RECORD];
         record[0] = 2;
-        record[1] = opcode;
+        record[1] = command.opcode;
+        record[2] = command.deallocate.into();
         record[4..8].copy_from_slice(&latency_us.to_le_bytes());
         self.raw(&record)
     }

@@ -1,7 +1,7 @@
 //! The facts of a history, each asked of the history itself. A place is the number of calls before it.
 
 use crate::history::{
-    accepted_clock, accepted_elapsed, accepted_settings, Call, Settings, Window, INCREMENT_MS, TIMESTAMP_TOP,
+    accepted_clock, accepted_elapsed, accepted_settings, Call, Command, Settings, Window, INCREMENT_MS, TIMESTAMP_TOP,
 };
 
 /// Counters: 3 x bucket + kind, where the kind is Read 0, Write 1 or Deallocate 2.
@@ -147,12 +147,12 @@ fn timer(history: &[Call]) -> u16 {
     }
 }
 
-/// The kind that an opcode counts as.
-fn kind(opcode: u8) -> Option<usize> {
-    match opcode {
-        0x02 => Some(0),
-        0x01 => Some(1),
-        0x09 => Some(2),
+/// The kind that a command counts as. Dataset Management and Write Zeroes must deallocate.
+fn kind(command: Command) -> Option<usize> {
+    match (command.opcode, command.deallocate) {
+        (0x02, _) => Some(0),
+        (0x01, _) => Some(1),
+        (0x09 | 0x08, true) => Some(2),
         _ => None,
     }
 }
@@ -173,12 +173,12 @@ pub(crate) fn all_completions(history: &[Call]) -> Vec<Completion> {
 
 /// The call at a place as an enabled completion of a kind, if it is one.
 fn completion(history: &[Call], place: usize) -> Option<Completion> {
-    let Call::Completion { opcode, latency_us } = history[place] else { return None };
+    let Call::Completion { command, latency_us } = history[place] else { return None };
     let settings = in_force(&history[..place]);
     if !settings.enabled() {
         return None;
     }
-    let kind = kind(opcode)?;
+    let kind = kind(command)?;
     Some(Completion {
         place,
         kind,

@@ -1,17 +1,25 @@
 //! The vectors, group by group.
 
 use crate::below_a;
+use crate::deallocate;
 use crate::events::{unnamed, Events, Preset, RECORD};
-use crate::history::{Settings, TIMESTAMP_TOP};
+use crate::history::{Command, Settings, TIMESTAMP_TOP};
 use crate::pages;
 use crate::random::Random;
 use crate::vectors::{EventVector, Group, SettingsVector, Vectors};
 
-pub(crate) const READ: u8 = 0x02;
-pub(crate) const WRITE: u8 = 0x01;
-pub(crate) const DEALLOCATE: u8 = 0x09;
-pub(crate) const KINDS: [u8; 3] = [READ, WRITE, DEALLOCATE];
+pub(crate) const READ: Command = Command { opcode: 0x02, deallocate: false };
+pub(crate) const WRITE: Command = Command { opcode: 0x01, deallocate: false };
+/// Dataset Management with its deallocate attribute, and without it.
+pub(crate) const DEALLOCATE: Command = Command { opcode: 0x09, deallocate: true };
+pub(crate) const HINT: Command = Command { opcode: 0x09, deallocate: false };
+/// Write Zeroes with its deallocate bit, and without it.
+pub(crate) const WRITE_ZEROES_DEAC: Command = Command { opcode: 0x08, deallocate: true };
+pub(crate) const WRITE_ZEROES: Command = Command { opcode: 0x08, deallocate: false };
+pub(crate) const KINDS: [Command; 3] = [READ, WRITE, DEALLOCATE];
 pub(crate) const LARGEST: u16 = 0x0FFF;
+/// A latency just below A, with thresholds 0, 1, 3, 9.
+pub(crate) const BELOW: u32 = 4_999;
 /// The records that the page program reads at a time.
 const BLOCK: usize = 4_096;
 
@@ -34,6 +42,7 @@ pub fn groups() -> Vec<Group> {
         events("damaged", damaged(&mut Random::new(5))),
         event_vectors("counters at their top", counters_at_their_top()),
         event_vectors("below threshold a", below_a::vectors()),
+        events("deallocate attribute", deallocate::files()),
         event_vectors("page buffers", page_buffers()),
         event_vectors("back buffers", back_buffers()),
         settings("settings lengths", settings_lengths()),
@@ -76,8 +85,8 @@ pub(crate) fn start(settings: Settings) -> Events {
     Events::default().settings(settings)
 }
 
-/// The opcode of a counter's kind.
-pub(crate) fn opcode(counter: usize) -> u8 {
+/// A command of a counter's kind.
+pub(crate) fn command(counter: usize) -> Command {
     KINDS[counter % 3]
 }
 
@@ -88,13 +97,13 @@ pub(crate) fn latency(counter: usize) -> u32 {
 
 /// A completion for each counter, in the order of their numbers.
 pub(crate) fn each_counter(file: Events) -> Events {
-    (0..12).fold(file, |f, n| f.completion(opcode(n), latency(n) + 1_000 * n as u32 / 4))
+    (0..12).fold(file, |f, n| f.completion(command(n), latency(n) + 1_000 * n as u32 / 4))
 }
 
 /// Reads once, writes twice and deallocates three times, so that no two kinds have the same count.
 pub(crate) fn each_kind(file: Events, us: u32) -> Events {
     let kinds = KINDS.into_iter().enumerate();
-    kinds.fold(file, |file, (times, opcode)| (0..=times).fold(file, |f, _| f.completion(opcode, us)))
+    kinds.fold(file, |file, (times, kind)| (0..=times).fold(file, |f, _| f.completion(kind, us)))
 }
 
 /// The scope paper's printed example.
@@ -113,7 +122,7 @@ fn edges() -> Vec<Events> {
     files.push(start(one).completion(READ, 5_000).elapsed(299_999));
     files.push(start(one).completion(READ, 5_000).elapsed(299_999).elapsed(1));
     for n in 0..12 {
-        files.push(start(base()).elapsed(77).completion(opcode(n), latency(n)));
+        files.push(start(base()).elapsed(77).completion(command(n), latency(n)));
     }
     files.push(start(Settings { thresholds: [2, 1, 3, 9], ..base() }).completion(READ, 50_000));
     files
@@ -145,8 +154,8 @@ fn thresholds() -> Vec<Events> {
         // One latency a file, so that a wrong bucket shows.
         for &us in &latencies {
             let mut file = start(settings).elapsed(3);
-            for other in [0, 3, 8, 255] {
-                file = file.completion(other, us);
+            for opcode in [0x00, 0x03, 0x08, 0x09, 0xFF] {
+                file = file.completion(Command { opcode, deallocate: false }, us);
             }
             files.push(each_kind(file, us));
         }
@@ -154,8 +163,6 @@ fn thresholds() -> Vec<Events> {
         let all = latencies.iter().flat_map(|&us| KINDS.map(|k| (k, us)));
         files.push(all.fold(start(settings), |f, (k, us)| f.completion(k, us)));
     }
-    files.push((0..=255).fold(start(base()), |f, opcode| f.completion(opcode, 20_000)));
-    files.push((0..=255).fold(Events::default(), |f, opcode| f.completion(opcode, 20_000)));
     files
 }
 
@@ -191,7 +198,7 @@ fn measured_latencies() -> Vec<Events> {
         let mut file = start(Settings { mode: 1 << n, ..base() });
         for round in 0..3 {
             file = file.elapsed(1);
-            file = (0..12).fold(file, |f, c| f.completion(opcode(c), latency(c) + 1_000 * round));
+            file = (0..12).fold(file, |f, c| f.completion(command(c), latency(c) + 1_000 * round));
         }
         files.push(file);
     }
@@ -225,7 +232,7 @@ fn elapsed(random: &mut Random) -> Vec<Events> {
             file = file.completion(DEALLOCATE, 60_000);
             for (n, &ms) in ms.iter().enumerate() {
                 file = file.elapsed(ms);
-                file = (0..=n).fold(file, |f, c| f.completion(opcode(c), latency(c) + 1_000 * n as u32));
+                file = (0..=n).fold(file, |f, c| f.completion(command(c), latency(c) + 1_000 * n as u32));
             }
             files.push(file);
         }
@@ -266,7 +273,7 @@ fn elapsed(random: &mut Random) -> Vec<Events> {
         for _ in 0..random.from(4, 30) {
             let ms = random_elapsed(random);
             let counter = random.below(12) as usize;
-            file = file.elapsed(ms).completion(opcode(counter), latency(counter) + random.below(4_000) as u32);
+            file = file.elapsed(ms).completion(command(counter), latency(counter) + random.below(4_000) as u32);
         }
         files.push(file);
     }
@@ -309,7 +316,7 @@ fn clocks() -> Vec<Events> {
         let mut file = start(Settings { timer_threshold: 1, ..base() }).elapsed(20);
         for n in 0..12 {
             file = if n == host { file.timestamp(1 << 40) } else { file.power_up() };
-            file = file.elapsed(1 + n as u32).completion(opcode(n), latency(n));
+            file = file.elapsed(1 + n as u32).completion(command(n), latency(n));
         }
         files.push(if host % 2 == 0 { file } else { file.elapsed(300_000).completion(READ, 5_000) });
     }
@@ -415,8 +422,8 @@ fn discard_and_enable() -> Vec<Events> {
                         .settings(Settings { discard, enable, debug_trigger, timer_threshold, mode, ..base() })
                         .elapsed(300_000)
                         .timestamp(1_000 * round as u64);
-                    file = (0..12).fold(file, |f, c| f.completion(opcode(c), latency(c) + 3_000)).elapsed(123_456);
-                    file = file.completion(opcode(round), 6_000);
+                    file = (0..12).fold(file, |f, c| f.completion(command(c), latency(c) + 3_000)).elapsed(123_456);
+                    file = file.completion(command(round), 6_000);
                 }
                 files.push(file);
             }
@@ -457,7 +464,7 @@ fn debug_triggers() -> Vec<Events> {
     for several in [0x0000, 0x0FFF, 0x0A00, 0x0810, 0x0492] {
         files.push(each_counter(start(with(several)).elapsed(4)));
         let file = start(with(several)).elapsed(6);
-        files.push((0..12).rev().fold(file, |f, n| f.elapsed(1).completion(opcode(n), latency(n))));
+        files.push((0..12).rev().fold(file, |f, n| f.elapsed(1).completion(command(n), latency(n))));
     }
     // Held: later triggers, windows and settings without discard leave it.
     let held = start(with(0x0FFF)).elapsed(5).completion(WRITE, 12_345).elapsed(5).completion(READ, 67_890);
@@ -477,7 +484,8 @@ fn debug_triggers() -> Vec<Events> {
         files.push(file.settings(discard).completion(READ, 5_000));
     }
     // What does not count does not trigger.
-    files.push(start(with(0x0FFF)).completion(READ, 4_999).completion(0x08, 50_000));
+    let file = start(with(0x0FFF)).completion(READ, BELOW);
+    files.push(file.completion(WRITE_ZEROES, 50_000).completion(HINT, 50_000));
     files.push(start(Settings { enable: 0, ..with(0x0FFF) }).completion(READ, 50_000));
     // The trigger of its own place decides: not the settings accepted later.
     files.push(start(with(0)).completion(READ, 5_000).settings(Settings { enable: 0, ..with(1) }));
@@ -550,9 +558,12 @@ fn unnamed_bytes() -> Vec<Events> {
             wrong[place] = [1, 128, 255][n % 3];
             files.push(example().raw(&wrong).elapsed(20).completion(WRITE, 9_000));
         }
-        // All named bytes set, and no other: only the call's own rules apply.
+        // All named bytes at their highest, and no other: only the call's own rules apply.
         let mut full = [255; 16];
         full[0] = kind;
+        if kind == 2 {
+            full[2] = 1;
+        }
         for place in unnamed(kind).expect("a kind of record") {
             full[place] = 0;
         }
@@ -725,15 +736,21 @@ pub(crate) fn random_timestamp(random: &mut Random) -> u64 {
     }
 }
 
+/// Most often a command that counts.
+fn random_command(random: &mut Random) -> Command {
+    let opcode = match random.below(20) {
+        0 => random.bits() as u8,
+        1..=6 => 0x02,
+        7..=12 => 0x01,
+        13..=17 => 0x09,
+        _ => 0x08,
+    };
+    Command { opcode, deallocate: random.chance(75) }
+}
+
 pub(crate) fn random_event(random: &mut Random, file: Events) -> Events {
     match random.below(200) {
-        0..=124 => {
-            let opcode = match random.below(20) {
-                0 => random.bits() as u8,
-                n => KINDS[n as usize % 3],
-            };
-            file.completion(opcode, random_latency(random))
-        }
+        0..=124 => file.completion(random_command(random), random_latency(random)),
         125..=174 => file.elapsed(random_elapsed(random)),
         175..=184 => file.timestamp(random_timestamp(random)),
         185..=190 => file.power_up(),
@@ -813,8 +830,8 @@ fn counters_at_their_top() -> Vec<EventVector> {
     // Each counter, from two below its top.
     for n in 0..12 {
         for more in 1..=3 {
-            let file = start(base()).completion(opcode(n), latency(n));
-            let file = (0..more).fold(file, |f, _| f.completion(opcode(n), latency(n)));
+            let file = start(base()).completion(command(n), latency(n));
+            let file = (0..more).fold(file, |f, _| f.completion(command(n), latency(n)));
             add(file, &[(n, top - 2, 2)]);
         }
     }

@@ -63,13 +63,20 @@ pub enum Window {
     Static,
 }
 
+/// What a completed command was: its opcode, and its deallocate attribute or bit.
+#[derive(Clone, Copy, Debug, PartialEq)]
+pub struct Command {
+    pub opcode: u8,
+    pub deallocate: bool,
+}
+
 /// One call.
 #[derive(Clone, Debug)]
 pub enum Call {
     /// Settings, as the bytes that were lent.
     Settings(Vec<u8>),
     Completion {
-        opcode: u8,
+        command: Command,
         latency_us: u32,
     },
     Elapsed(u32),

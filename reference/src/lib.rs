@@ -2,6 +2,7 @@
 
 pub mod answers;
 pub mod below_a;
+pub mod deallocate;
 pub mod events;
 pub mod facts;
 pub mod groups;

@@ -3,7 +3,7 @@
 use std::io::{self, Write};
 
 use crate::events::Events;
-use crate::history::Settings;
+use crate::history::{Command, Settings};
 use crate::random::Random;
 
 fn settings(discard: u8) -> Settings {
@@ -31,13 +31,13 @@ fn latency(random: &mut Random) -> u32 {
 }
 
 fn completion(random: &mut Random) -> Events {
-    let opcode = match random.below(100) {
-        0..=61 => 0x02,
-        62..=91 => 0x01,
-        92..=96 => 0x09,
-        _ => random.pick(&[0x00, 0x04, 0x05, 0x08, 0x0C]),
+    let (opcode, deallocate) = match random.below(100) {
+        0..=61 => (0x02, false),
+        62..=91 => (0x01, false),
+        92..=96 => (0x09, true),
+        _ => (random.pick(&[0x00, 0x04, 0x05, 0x08, 0x0C]), random.chance(50)),
     };
-    Events::default().completion(opcode, latency(random))
+    Events::default().completion(Command { opcode, deallocate }, latency(random))
 }
 
 /// Elapsed times: mostly up to 20 ms, a few pauses, and now and then an idle drive.

@@ -2,7 +2,7 @@
 
 use crate::events::{read, Events, Preset};
 use crate::facts::{CounterFacts, Event, Facts, WindowFacts, COUNTERS, NO_EVENT};
-use crate::groups::{base, each_counter, example, latency, opcode, random_mixture, random_timestamp, start, LARGEST};
+use crate::groups::{base, command, each_counter, example, latency, random_mixture, random_timestamp, start, LARGEST};
 use crate::history::{Settings, PAGE_LENGTH, TIMESTAMP_TOP};
 use crate::page::{counter_place, latency_place, page, page_bytes, put, stamp_place, BLOCKS, STAMP_UNITS};
 use crate::random::Random;
@@ -119,7 +119,7 @@ fn all_counters() -> impl Iterator<Item = (usize, usize)> {
 fn rising(file: Events) -> Events {
     (0..12).fold(file, |file, round| {
         let us = |counter| latency(counter) + 400 * round as u32;
-        (round..12).fold(file.elapsed(10), |f, counter| f.completion(opcode(counter), us(counter)))
+        (round..12).fold(file.elapsed(10), |f, counter| f.completion(command(counter), us(counter)))
     })
 }
 
@@ -160,7 +160,7 @@ fn plain_files() -> Vec<Events> {
     // Half of the stamps loaded before power-up, by the host's clock.
     for first in [0, 6] {
         let file = start(base()).timestamp(1 << 40);
-        let file = (first..first + 6).fold(file, |f, n| f.completion(opcode(n), latency(n)));
+        let file = (first..first + 6).fold(file, |f, n| f.completion(command(n), latency(n)));
         files.push(each_counter(file.power_up().elapsed(77)));
     }
     files
@@ -188,7 +188,7 @@ fn debug_log_files() -> Vec<Events> {
         let settings = Settings { timer_threshold: 1, debug_trigger: 1 << n, ..base() };
         let file = start(settings).elapsed(100 + n as u32);
         let file = if n % 2 == 0 { file.timestamp(1 << (4 * n)) } else { file };
-        let file = file.completion(opcode(n), latency(n) + 1_234);
+        let file = file.completion(command(n), latency(n) + 1_234);
         files.push(if n % 3 == 0 { file } else { file.elapsed(300_000) });
     }
     let settings = Settings { debug_trigger: 0x0FFF, ..base() };
@@ -196,7 +196,7 @@ fn debug_log_files() -> Vec<Events> {
     files.push(held.clone().settings(settings));
     files.push(held.clone().power_up().settings(Settings { enable: 0, ..settings }));
     files.push(held.clone().settings(Settings { discard: 1, enable: 0, ..settings }));
-    files.push(held.settings(Settings { discard: 1, ..settings }).completion(opcode(10), u32::MAX));
+    files.push(held.settings(Settings { discard: 1, ..settings }).completion(command(10), u32::MAX));
     files
 }
 

@@ -1,15 +1,25 @@
 use crate::answers::{answer, answers, Answer};
 use crate::events::{printed, read, record_answers, Events, Preset, Refused};
 use crate::facts::{facts, in_force, Facts, BELOW_A};
-use crate::groups::{each_kind, example, groups, random_mixture};
-use crate::history::{accepted_elapsed, accepted_settings, refusal, Call, Settings, Window, INCREMENT_MS};
+use crate::groups::{
+    each_kind, example, groups, random_mixture, BELOW, DEALLOCATE, HINT, READ, WRITE_ZEROES, WRITE_ZEROES_DEAC,
+};
+use crate::history::{accepted_elapsed, accepted_settings, refusal, Call, Command, Settings, Window, INCREMENT_MS};
 use crate::page::{page, page_bytes, settings_back};
 use crate::pages;
 use crate::random::Random;
 use crate::reading::{listing, read_page, zero_places};
 use crate::vectors::{self, Vectors};
 
-const READ: u8 = 0x02;
+/// The commands that count, each as its opcode, its attribute or bit, and its kind.
+const COUNTED: [(u8, bool, usize); 6] =
+    [(0x02, false, 0), (0x02, true, 0), (0x01, false, 1), (0x01, true, 1), (0x09, true, 2), (0x08, true, 2)];
+
+/// The kind of a command, by the table alone.
+fn kind(command: Command) -> Option<usize> {
+    let row = COUNTED.iter().find(|&&(opcode, deallocate, _)| command == Command { opcode, deallocate });
+    row.map(|&(_, _, kind)| kind)
+}
 
 fn base() -> Settings {
     Settings { timer_threshold: 2, thresholds: [0, 1, 3, 9], enable: 1, ..Settings::default() }
@@ -94,7 +104,7 @@ fn p10_window_end() {
 fn p11_p12_stamp_places() {
     let file = Events::default().settings(base()).elapsed(0x1234);
     assert_eq!(number(&page_of(file.clone().completion(READ, 50_000)), 112, 8), 0x1234);
-    assert_eq!(number(&page_of(file.completion(0x09, 5_000)), 168, 8), 0x1234);
+    assert_eq!(number(&page_of(file.completion(DEALLOCATE, 5_000)), 168, 8), 0x1234);
 }
 
 #[test]
@@ -249,7 +259,7 @@ fn below_a_edges() {
         }
     }
     // No kind, and nothing enabled.
-    assert_eq!(below_a(&facts_of(Events::default().settings(base()).completion(0x08, 0))), [[0; 3]; 2]);
+    assert_eq!(below_a(&facts_of(Events::default().settings(base()).completion(WRITE_ZEROES, 0))), [[0; 3]; 2]);
     assert_eq!(below_a(&facts_of(each_kind(Events::default(), 0))), [[0; 3]; 2]);
 }
 
@@ -319,13 +329,22 @@ fn completions(history: &[Call]) -> [[u64; 3]; 2] {
         if time >= length {
             (time, windows) = (time - length, [[0; 3], windows[0]]);
         }
-        if let Call::Completion { opcode, .. } = call {
-            if let Some(kind) = [0x02, 0x01, 0x09].iter().position(|kind| kind == opcode) {
+        if let Call::Completion { command, .. } = *call {
+            if let Some(kind) = kind(command) {
                 windows[0][kind] += 1;
             }
         }
     }
     windows
+}
+
+/// A kind's counts in the active and in the static window: by bucket, and the one below A last.
+fn counts(facts: &Facts, kind: usize) -> [[u32; 5]; 2] {
+    let windows = [(facts.active_window, facts.active_below_a), (facts.static_window, facts.static_below_a)];
+    windows.map(|(window, below_a)| {
+        let all: Vec<u32> = window.iter().map(|shown| shown.count).chain(below_a).collect();
+        std::array::from_fn(|n| all[3 * n + kind])
+    })
 }
 
 /// The five counts of a kind are together the enabled completions of that kind in the window.
@@ -334,12 +353,10 @@ fn five_counts() {
     let mut on_both_sides = [0; 2];
     for history in random_histories(22) {
         let facts = facts(&history);
-        let windows = [(facts.active_window, facts.active_below_a), (facts.static_window, facts.static_below_a)];
-        for (n, (window, below_a)) in windows.into_iter().enumerate() {
-            for kind in 0..3 {
-                let counted: u64 = (0..4).map(|bucket| u64::from(window[3 * bucket + kind].count)).sum();
-                let below = u64::from(below_a[kind]);
-                assert_eq!(counted + below, completions(&history)[n][kind]);
+        for kind in 0..3 {
+            for (n, [a, b, c, d, below]) in counts(&facts, kind).into_iter().enumerate() {
+                let counted: u64 = [a, b, c, d].map(u64::from).iter().sum();
+                assert_eq!(counted + u64::from(below), completions(&history)[n][kind]);
                 on_both_sides[n] += u32::from(counted > 0 && below > 0);
             }
         }
@@ -370,6 +387,115 @@ fn pages_without_below_a() {
         }
     }
     assert!(differ > 100);
+}
+
+/// Every opcode with either value, slow and below A, with the monitor enabled and disabled.
+#[test]
+fn kinds_of_commands() {
+    let every_opcode = (0..=255).flat_map(|opcode| [false, true].map(|deallocate| Command { opcode, deallocate }));
+    for command in every_opcode {
+        let file = |enable| {
+            let settings = Settings { debug_trigger: 0x0FFF, enable, ..base() };
+            Events::default().settings(settings).completion(command, BELOW).completion(command, 20_000)
+        };
+        for (file, kind) in [(file(1), kind(command)), (file(0), None)] {
+            let slow = kind.map(|kind| 6 + kind);
+            let counted = |counter| Answer::Counted { counter, loaded: true, debug: true };
+            let expected = [Answer::Done, Answer::NotCounted, slow.map_or(Answer::NotCounted, counted)];
+            assert_eq!(record_answers(&file.0, &[]), expected);
+            let facts = facts_of(file);
+            assert_eq!(facts.active_window.map(|shown| shown.count), std::array::from_fn(|n| (Some(n) == slow).into()));
+            assert_eq!(facts.active_below_a, std::array::from_fn(|n| (Some(n) == kind).into()));
+            assert_eq!(facts.debug_log.map(|(counter, _)| counter), slow);
+        }
+    }
+}
+
+/// Counter, stamp and debug log of a Write Zeroes with its bit, by the numbers of the scope paper. What comes before it
+/// without attribute or bit leaves no trace.
+#[test]
+fn write_zeroes_on_the_page() {
+    for (bucket, us) in [5_000, 10_000, 20_000, 50_000].into_iter().enumerate() {
+        let file = Events::default().settings(Settings { debug_trigger: 0x0FFF, ..base() }).elapsed(9);
+        let file = file.completion(HINT, us).completion(WRITE_ZEROES, us + 1_000).completion(HINT, BELOW);
+        let file = file.elapsed(0x1234 - 9).completion(WRITE_ZEROES_DEAC, us).completion(WRITE_ZEROES_DEAC, BELOW);
+        let page = page_of(file.clone());
+        let stamp = 32 + 64 + 24 * (3 - bucket);
+        let latency = 32 + 160 + 6 * (3 - bucket);
+        let ms = u64::from(us / 1_000);
+        assert_eq!(number(&page, 32 + 16 * bucket + 4, 4), 1);
+        assert_eq!((number(&page, stamp, 8), number(&page, latency, 2)), (0x1234, ms));
+        assert_eq!((number(&page, 450, 2), number(&page, 452, 8)), (ms, 0x1234));
+        assert_eq!(number(&page, 462, 2), 4 << (3 * bucket));
+        assert_eq!(below_a(&facts_of(file)), [[0, 0, 1], [0; 3]]);
+    }
+}
+
+/// A completion of 5,000 microseconds with these bytes 2 and 3.
+fn completion_record(opcode: u8, bytes: [u8; 2]) -> [u8; 16] {
+    [2, opcode, bytes[0], bytes[1], 0x88, 0x13, 0, 0, 0, 0, 0, 0, 0, 0, 0, 0]
+}
+
+#[test]
+fn bytes_2_and_3() {
+    let after = |record: &[u8]| example().raw(record).elapsed(7).completion(READ, 10_000);
+    let refused = |record: &[u8]| read(&after(record).0, &[]).1;
+    let by_11 = [Refused { record: 3, number: 11 }];
+    for opcode in [0x02, 0x01, 0x09, 0x08, 0x05] {
+        for byte in [0, 1] {
+            assert_eq!(refused(&completion_record(opcode, [byte, 0])), []);
+            assert_eq!(refused(&completion_record(opcode, [byte, 1])), by_11);
+        }
+        for byte in 2..=255 {
+            let record = completion_record(opcode, [byte, 0]);
+            assert_eq!(refused(&record), by_11);
+            assert_eq!(facts_of(after(&record)), facts_of(after(&[])));
+        }
+    }
+    // Elapsed time, timestamps and power-up name no byte 2.
+    for kind in [3, 4, 5] {
+        assert_eq!(refused(&[kind, 0, 1, 0, 0, 0, 0, 0, 0, 0, 0, 0, 0, 0, 0, 0]), by_11);
+    }
+}
+
+/// A history with other commands in its completions.
+fn with_commands(history: &[Call], change: fn(Command) -> Command) -> Vec<Call> {
+    let changed = |call: &Call| match *call {
+        Call::Completion { command, latency_us } => Call::Completion { command: change(command), latency_us },
+        _ => call.clone(),
+    };
+    history.iter().map(changed).collect()
+}
+
+/// Only 09h and 08h go by their attribute or bit, and the two are alike.
+#[test]
+fn commands_alike() {
+    let changes: [fn(Command) -> Command; 2] = [
+        |c| Command { deallocate: matches!(c.opcode, 0x08 | 0x09) == c.deallocate, ..c },
+        |c| Command { opcode: if matches!(c.opcode, 0x08 | 0x09) { c.opcode ^ 1 } else { c.opcode }, ..c },
+    ];
+    for history in random_histories(24) {
+        for change in changes {
+            let changed = with_commands(&history, change);
+            assert_eq!(facts(&changed), facts(&history));
+            assert_eq!(answers(&changed), answers(&history));
+        }
+    }
+}
+
+/// Completions without attribute or bit, as all that earlier releases took, count no Deallocate.
+#[test]
+fn no_deallocate_without_attribute() {
+    let mut counted = [[0; 5]; 2];
+    for history in random_histories(25) {
+        let without = with_commands(&history, |c| Command { deallocate: false, ..c });
+        assert_eq!(counts(&facts(&without), 2), [[0; 5]; 2]);
+        for (sums, counts) in counted.iter_mut().zip(counts(&facts(&history), 2)) {
+            sums.iter_mut().zip(counts).for_each(|(sum, count)| *sum += count);
+        }
+    }
+    // With it each of the ten counts is above zero somewhere.
+    assert!(counted.iter().flatten().all(|&sum| sum > 0));
 }
 
 /// What the reference writes it reads back as the facts behind it, but for the discard byte and the counts below A.
@@ -485,7 +611,7 @@ fn groups_of_pages() {
 #[test]
 fn vectors_are_in_the_format() {
     let file = vectors::write(&groups());
-    assert!(file.len() < 2_900_000);
+    assert!(file.len() < 3_000_000);
     assert!(vectors::check(&file).is_ok());
     assert!(vectors::check(&file[..file.len() - 1]).is_err());
     // The end of the last listing.

@@ -1,12 +1,17 @@
--- What is claimed of files, beyond the contracts: a file may be taken in parts, the first of whole records.
+-- What is claimed of files, beyond the contracts: a file may be taken in parts, the first of whole records, and may be of
+-- an earlier release.
 use mathlib.Core.Path.{_≡_}
+use mathlib.Core.Bool.{false}
 use mathlib.Core.List.{List, _++_}
+use mathlib.Core.Option.{some}
 use Prim.Native.Nat.{ℕ, _+_, _%_}
-use lib.ListN.{length}
+use lib.ListN.{length, getD}
+use Rattle.endian.specs.Bytes.{anySet}
+use Rattle.endian.specs.Loads.{number}
 use Rattle.monitor.specs.declared.record.Monitor.{Monitor}
-use Rattle.monitor.specs.History.{playFrom}
+use Rattle.monitor.specs.History.{completion, playFrom}
 use Rattle.events.specs.Blocks.{refusedLines}
-use Rattle.events.specs.Records.{historyOf, wholeRecords}
+use Rattle.events.specs.Records.{recordKind, part, unnamed, callOf, historyOf, wholeRecords}
 
 -- what follows is played on the monitor that the first part leaves
 unfoldable pub InParts : Type 0
@@ -21,3 +26,14 @@ LinesInParts =
     (first : ℕ) (s t : List ℕ) →
     length s % 16 ≡ 0 →
     refusedLines first s ++ refusedLines (first + wholeRecords s) t ≡ refusedLines first (s ++ t)
+
+-- 02, Ticket 4: what earlier releases accepted as a completion, byte 2 being one of its unnamed bytes, is accepted as
+-- what it was, without the attribute
+unfoldable pub EarlierCompletions : Type 0
+EarlierCompletions =
+    (r : List ℕ) →
+    length r ≡ 16 →
+    recordKind r ≡ 2 →
+    anySet (unnamed 2 4 8 r) ≡ false →
+    callOf r ≡
+    some (completion (record { opcode = getD r 1 0; deallocate = false; latency = number (part 4 8 r) }))

@@ -3,7 +3,7 @@ use mathlib.Core.Bool.{Bool, cond, not, _&&_}
 use mathlib.Core.List.{List, [], _++_}
 use mathlib.Core.Option.{Option, none, some}
 use Prim.Native.Nat.{ℕ, zero, suc, _+_, _-_, _*_, _/_, _%_}
-use lib.Dec.{eqb}
+use lib.Dec.{eqb, leb}
 use lib.ListN.{length, getD, take, drop, replicate}
 use Rattle.endian.specs.Bytes.{anySet}
 use Rattle.endian.specs.Loads.{number}
@@ -37,9 +37,15 @@ ifClear bytes c = cond (anySet bytes) none (some c)
 unfoldable pub settingsBytes : List ℕ → List ℕ
 settingsBytes r = part 1 14 r ++ replicate 4083 0
 
--- kind 2 brings a command
+-- kind 2 brings a command; 02, Ticket 4: byte 2 is its deallocate attribute or bit, 0 or 1
+abbrev pub attribute : List ℕ → ℕ
+attribute r = getD r 2 0
+
 unfoldable pub commandOf : List ℕ → Command
-commandOf r = record { opcode = getD r 1 0; latency = number (part 4 8 r) }
+commandOf r = record { opcode = getD r 1 0; deallocate = eqb (attribute r) 1; latency = number (part 4 8 r) }
+
+unfoldable pub completionOf : List ℕ → Option Call
+completionOf r = cond (leb (attribute r) 1) (ifClear (unnamed 3 4 8 r) (completion (commandOf r))) none
 
 -- kind 3 brings four bytes of time, kind 4 eight of the clock
 unfoldable pub elapsedOf : List ℕ → ℕ
@@ -52,7 +58,7 @@ clockOf r = number (part 4 12 r)
 unfoldable pub callOfKind : ℕ → List ℕ → Option Call
 callOfKind kind r =
     cond (eqb kind 1) (ifClear (unnamed 14 16 16 r) (settings (settingsBytes r)))
-    (cond (eqb kind 2) (ifClear (unnamed 2 4 8 r) (completion (commandOf r)))
+    (cond (eqb kind 2) (completionOf r)
     (cond (eqb kind 3) (ifClear (unnamed 1 4 8 r) (elapsed (elapsedOf r)))
     (cond (eqb kind 4) (ifClear (unnamed 1 4 12 r) (clock (clockOf r)))
     (cond (eqb kind 5) (ifClear (unnamed 1 8 8 r) powerUp) none))))
@@ -66,7 +72,7 @@ abbrev pub isKind : (kind from to rest : ℕ) → List ℕ → Bool
 isKind kind from to rest r = eqb (recordKind r) kind && not (anySet (unnamed from to rest r))
 
 unfoldable pub isCompletion : List ℕ → Bool
-isCompletion = isKind 2 2 4 8
+isCompletion r = leb (attribute r) 1 && isKind 2 3 4 8 r
 
 unfoldable pub isElapsed : List ℕ → Bool
 isElapsed = isKind 3 1 4 8

@@ -6,7 +6,7 @@ ghost use lib.ListN.{length, replicate};
 ghost use Rattle.endian.specs.Bytes.{anySet};
 ghost use Rattle.monitor.specs.Answers.{saysAnswer, saysElapsed, refused};
 ghost use Rattle.monitor.specs.Record.{afterSettings, settingsAnswer};
-ghost use Rattle.events.specs.Records.{unnamed, settingsBytes, commandOf, isKind, isCompletion, isElapsed};
+ghost use Rattle.events.specs.Records.{unnamed, settingsBytes, commandOf, isCompletion, isElapsed};
 ghost use Rattle.events.specs.Records.{afterRecord, recordAnswer};
 use monitor::Answer;
 use monitor::Command;
@@ -42,25 +42,20 @@ fn clear(r: &[u8], from: usize, to: usize, rest: usize) -> bool
     }
 }
 
-// Whether a record is of a kind, with the bytes that the kind leaves unnamed zero.
-fn is_kind(r: &[u8], kind: u8, from: usize, to: usize, rest: usize) -> bool
-    requires { ⌜ 0 < length (now r) ⌝ }
-    requires { ⌜ (from ≤ to) × (to ≤ rest) × (rest ≤ length (now r)) × (to ≤ from + 8) × (length (now r) ≤ rest + 8) ⌝ }
-    ensures { λ b. ⌜ b ≡ isKind kind from to rest (now (r .entry)) ⌝ }
-{
-    if r[0] == kind {
-        clear(r, from, to, rest)
-    } else {
-        false
-    }
-}
-
-// Whether a record is a completion.
+// Whether a record is a completion. Byte 2 is 0 or 1 and byte 3 zero where the two make a number of at most 1.
 pub(crate) fn is_completion(r: &[u8]) -> bool
     requires { ⌜ length (now r) ≡ 16 ⌝ }
     ensures { λ b. ⌜ b ≡ isCompletion (now (r .entry)) ⌝ }
 {
-    is_kind(r, COMPLETION, 2, 4, 8)
+    if r[0] == COMPLETION {
+        if endian::load(&r[2..4]) <= 1 {
+            endian::load(&r[8..]) == 0
+        } else {
+            false
+        }
+    } else {
+        false
+    }
 }
 
 // Whether a record is elapsed time.
@@ -68,7 +63,11 @@ pub(crate) fn is_elapsed(r: &[u8]) -> bool
     requires { ⌜ length (now r) ≡ 16 ⌝ }
     ensures { λ b. ⌜ b ≡ isElapsed (now (r .entry)) ⌝ }
 {
-    is_kind(r, ELAPSED, 1, 4, 8)
+    if r[0] == ELAPSED {
+        clear(r, 1, 4, 8)
+    } else {
+        false
+    }
 }
 
 // What a completion's record brings.
@@ -78,6 +77,7 @@ pub(crate) fn command(r: &[u8]) -> Command
 {
     Command {
         opcode: r[1],
+        deallocate: r[2] == 1,
         latency: endian::load(&r[4..8]) as u32,
     }
 }

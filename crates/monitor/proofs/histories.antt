@@ -8,4 +8,5 @@ pub mod Bounds
 pub mod Given
 pub mod Pages
 pub mod BelowA
+pub mod Deallocates
 pub mod ReadBack

@@ -1,5 +1,6 @@
 -- What is claimed of every history. The proofs are in proofs/histories/.
 use mathlib.Core.Path.{_≡_}
+use mathlib.Core.Bool.{false}
 use mathlib.Core.List.{List, _∷_}
 use mathlib.Core.Logic.{_↔_}
 use mathlib.Core.Option.{Option, none}
@@ -12,7 +13,8 @@ use Rattle.logpage.specs.Fields.{from, each}
 use Rattle.monitor.specs.Facts.{inForce, clockAt, hostSetAt, timerThreshold, enabledTime, windowAt, timerAt}
 use Rattle.monitor.specs.Facts.{Counted, active, static, countOf, lastLoad, stampOf, latencyOf, unitsOf}
 use Rattle.monitor.specs.Facts.{windowFrom, debugAt, factsOf, sum, ofKind, belowACounts}
-use Rattle.monitor.specs.History.{elapsed, History, Past, OfBytes, All, settingsIn, found, latest, pastOf, play}
+use Rattle.monitor.specs.History.{elapsed, History, Past, OfBytes, All, asked, settingsIn, attributeIn, found}
+use Rattle.monitor.specs.History.{latest, pastOf, play}
 use Rattle.monitor.specs.Counting.{countTop}
 use Rattle.monitor.specs.Answers.{ended, unlessRefused}
 use Rattle.monitor.specs.Record.{untouchedIf, elapsedAnswer}
@@ -122,3 +124,11 @@ FiveCountsAddUp =
     k < 3 →
     All (λ count. count < countTop) (fiveCounts w (play h) k) →
     sum (fiveCounts w (play h) k) ≡ length (ofKind w (pastOf h) k)
+
+-- 02, Ticket 4: no completion of a history has the deallocate attribute or bit
+abbrev pub WithoutAttribute : History → Type 0
+WithoutAttribute h = All (λ call. attributeIn (asked call) ≡ false) h
+
+-- 02, Ticket 4: then nothing is counted as Deallocate, kind 2, in either window
+abbrev pub NoDeallocateCounted : Type 0
+NoDeallocateCounted = (h : History) (w : WindowChoice) → WithoutAttribute h → fiveCounts w (play h) 2 ≡ replicate 5 0

@@ -1,6 +1,6 @@
 -- A completion: the counter that it counts for, whether it is below threshold A, and its latency in ms.
 use Prim.Native.Nat.{ℕ, zero, suc, _+_, _*_, _/_, min}
-use mathlib.Core.Bool.{Bool, cond, not, _&&_}
+use mathlib.Core.Bool.{Bool, cond, not, _&&_, _||_}
 use mathlib.Core.List.{List}
 use mathlib.Core.Option.{Option, none, some}
 use lib.Dec.{eqb, leb}
@@ -24,12 +24,16 @@ abbrev pub saysBucket : Bucket → Option ℕ
 saysBucket (bucket.At b) = some b
 saysBucket bucket.Below = none
 
--- 01, A completion: the kind that an opcode has; 9 is Dataset Management, whatever its attributes
+-- 02, Ticket 4: Dataset Management, 9, and Write Zeroes, 8, are Deallocate with the deallocate attribute or bit
+abbrev pub deallocating : ℕ → Bool → Option ℕ
+deallocating opcode attribute = cond ((eqb opcode 9 || eqb opcode 8) && attribute) (some 2) none
+
+-- 01, A completion: the kind that an opcode has; a Read or Write is not asked for the attribute
 unfoldable pub kindOf : Command → Option ℕ
 kindOf c =
     cond (eqb (c .opcode) 2) (some 0)
     (cond (eqb (c .opcode) 1) (some 1)
-    (cond (eqb (c .opcode) 9) (some 2) none))
+    (deallocating (c .opcode) (c .deallocate)))
 
 -- 01, Settings: threshold byte 0 is 5 ms, and each further one 5 ms more. 01, A completion: an equal latency reaches it
 abbrev pub reaches : ℕ → ℕ → Bool

@@ -32,7 +32,7 @@ enabledWith threshold thresholds =
 
 -- a Read of so many µs
 abbrev pub read : ℕ → Command
-read us = record { opcode = 2; latency = us }
+read us = record { opcode = 2; deallocate = false; latency = us }
 
 -- thresholds of 5, 10, 20 and 50 ms
 abbrev pub usual : List ℕ

@@ -175,6 +175,10 @@ unfoldable pub since : {A B : Type 0} → (Effect → Option B) → (Effect → 
 since start f [] = []
 since start f (e ∷ past) = unlessFound (start e) (andThen (f e past) (since start f past))
 
+-- 02, Ticket 4: whether an effect is a completion with the deallocate attribute or bit
+abbrev pub attributeIn : Effect → Bool
+attributeIn e = found false (λ (c : Command). c .deallocate) (completionIn e)
+
 -- a fact of each entry of a list
 abbrev pub All : {A : Type 0} → (A → Type 0) → List A → Type 0
 All P [] = Unit {0}

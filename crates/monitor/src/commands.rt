@@ -2,8 +2,8 @@
 ghost use mathlib.Core.Path.{_≡_};
 ghost use mathlib.Core.Option.{some};
 ghost use Prim.Native.Nat.{_<_};
-ghost use Rattle.monitor.specs.Commands.{kindOf, reaches, bucketOf, counterAt, counterOf, millisecondsOf};
-ghost use Rattle.monitor.specs.Commands.{isBelowA, belowAOf, saysKind, saysBucket, counterNumber, kindNumber};
+ghost use Rattle.monitor.specs.Commands.{deallocating, kindOf, reaches, bucketOf, counterAt, counterOf};
+ghost use Rattle.monitor.specs.Commands.{millisecondsOf, isBelowA, belowAOf, saysKind, saysBucket, counterNumber, kindNumber};
 ghost use Rattle.monitor.specs.Counting.{countedBelowA};
 use crate::counting;
 use logpage::Settings;
@@ -14,6 +14,8 @@ pub struct Command {
     // In microseconds.
     pub latency: u32,
     pub opcode: u8,
+    // The deallocate attribute of Dataset Management, or the deallocate bit of Write Zeroes.
+    pub deallocate: bool,
 }
 
 // Read, Write and Deallocate have counters.
@@ -43,6 +45,21 @@ fn reaches(latency: u32, threshold: u8) -> bool
     5000 * (threshold as u32 + 1) <= latency
 }
 
+// The kind of a command that is neither Read nor Write, by its opcode and its deallocate attribute or bit.
+fn deallocating(opcode: u8, attribute: bool) -> Kind
+    ensures { λ r. ⌜ saysKind r ≡ deallocating opcode attribute ⌝ }
+{
+    if attribute {
+        match opcode {
+            9 => Kind::Deallocate,
+            8 => Kind::Deallocate,
+            _ => Kind::Other,
+        }
+    } else {
+        Kind::Other
+    }
+}
+
 // The number of the counter of a bucket and a kind.
 fn counter_at(bucket: u8, kind: Kind) -> u16
     requires { ⌜ bucket < 4 ⌝ }
@@ -70,7 +87,7 @@ fn kind_number(kind: Kind) -> u16
 }
 
 impl Command {
-    // The kind of the command.
+    // The kind of the command. Reads and Writes are most of them, and are not asked for the attribute.
     pub(crate) fn kind(self) -> Kind
         ensures { λ r. ⌜ saysKind r ≡ kindOf self ⌝ }
     {
@@ -78,8 +95,7 @@ impl Command {
         match opcode {
             2 => Kind::Read,
             1 => Kind::Write,
-            9 => Kind::Deallocate,
-            _ => Kind::Other,
+            _ => deallocating(opcode, self.deallocate),
         }
     }
 
@@ -140,12 +156,17 @@ impl Command {
         }
     }
 
-    // The counts below threshold A, by kind, after the completion.
+    // The counts below threshold A, by kind, after the completion. One of no kind is spared the write.
     pub fn counts_below_a(self, s: Settings, counts: [u32; 3]) -> [u32; 3]
         ensures { λ r. ⌜ r ≡ countedBelowA (belowAOf s self) counts ⌝ }
     {
         if self.is_below_a(s) {
-            counting::counted_below_a(counts, kind_number(self.kind()))
+            let kind = kind_number(self.kind());
+            if kind < NO_KIND {
+                counting::counted_below_a(counts, kind)
+            } else {
+                counts
+            }
         } else {
             counts
         }

@@ -1,13 +1,23 @@
 //! Random calls, most of them near the places where the rules change their mind.
 
 use reference::facts::{in_force, window_time};
-use reference::history::{Call, Settings, Window, INCREMENT_MS, PAGE_LENGTH, SETTINGS_LENGTH, TIMESTAMP_TOP};
+use reference::history::{Call, Command, Settings, Window, INCREMENT_MS, PAGE_LENGTH, SETTINGS_LENGTH, TIMESTAMP_TOP};
 use reference::random::Random;
 
 const READ: u8 = 0x02;
 const WRITE: u8 = 0x01;
-const DEALLOCATE: u8 = 0x09;
-pub const KINDS: [u8; 3] = [READ, WRITE, DEALLOCATE];
+const DATASET_MANAGEMENT: u8 = 0x09;
+const WRITE_ZEROES: u8 = 0x08;
+pub const OPCODES: [u8; 4] = [READ, WRITE, DATASET_MANAGEMENT, WRITE_ZEROES];
+/// Every command that is a Read, Write or Deallocate.
+pub const OF_A_KIND: [Command; 6] = [
+    Command { opcode: READ, deallocate: false },
+    Command { opcode: READ, deallocate: true },
+    Command { opcode: WRITE, deallocate: false },
+    Command { opcode: WRITE, deallocate: true },
+    Command { opcode: DATASET_MANAGEMENT, deallocate: true },
+    Command { opcode: WRITE_ZEROES, deallocate: true },
+];
 /// A bit for each counter.
 const ALL: u16 = 0x0FFF;
 /// The first latency that shows 65,535 ms, in microseconds.
@@ -35,20 +45,25 @@ fn beside(number: u32, by: i32) -> u32 {
     number.saturating_add_signed(by)
 }
 
-/// Half of the completions have the opcode of the one before, so that they meet the same counter.
+/// Half of the completions have the command of the one before, so that they meet the same counter.
 fn completion(random: &mut Random, history: &[Call]) -> Call {
     let last = history.iter().rev().find_map(|call| match call {
-        Call::Completion { opcode, latency_us } => Some((*opcode, *latency_us)),
+        Call::Completion { command, latency_us } => Some((*command, *latency_us)),
         _ => None,
     });
-    let (last_opcode, last_latency) = last.unwrap_or((READ, 5_000));
+    let (last_command, last_latency) = last.unwrap_or((OF_A_KIND[0], 5_000));
+    let command = if random.chance(50) { last_command } else { command(random) };
+    Call::Completion { command, latency_us: latency(random, history, last_latency) }
+}
+
+/// A command, most of them with an opcode that may count, with or without the deallocate attribute.
+fn command(random: &mut Random) -> Command {
     let any = random.bits() as u8;
-    let opcode = match random.below(20) {
-        0..=9 => last_opcode,
-        10..=18 => random.pick(&KINDS),
-        _ => random.pick(&[0x00, 0x03, 0x08, 0x0A, 0x82, 0xFF, any]),
+    let opcode = match random.below(10) {
+        0..=8 => random.pick(&OPCODES),
+        _ => random.pick(&[0x00, 0x03, 0x0A, 0x82, 0xFF, any]),
     };
-    Call::Completion { opcode, latency_us: latency(random, history, last_latency) }
+    Command { opcode, deallocate: random.chance(50) }
 }
 
 /// The first latency that reaches a threshold, in microseconds.

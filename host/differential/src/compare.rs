@@ -9,7 +9,7 @@ use latency_monitor::{
 };
 use reference::answers::Answer;
 use reference::facts::{clock, facts, window_time, Facts, WindowFacts, NO_STAMP};
-use reference::history::{Call, Settings, Window as Asked, INCREMENT_MS, PAGE_LENGTH};
+use reference::history::{Call, Command as Completed, Settings, Window as Asked, INCREMENT_MS, PAGE_LENGTH};
 use reference::page::page_bytes;
 use reference::reading;
 
@@ -75,10 +75,12 @@ fn same<T: Debug + PartialEq>(what: &str, is: T, due: T) -> Result<(), String> {
 fn answer(monitor: &mut Monitor, call: &Call, lent: &mut [u8]) -> Answer {
     match *call {
         Call::Settings(_) => done(monitor.configure(lent)),
-        Call::Completion { opcode, latency_us } => match monitor.completion(Command { opcode, latency: latency_us }) {
-            CompletionAnswer::NotCounted => Answer::NotCounted,
-            CompletionAnswer::Counted { counter, loaded, debug } => Answer::Counted { counter, loaded, debug },
-        },
+        Call::Completion { command: Completed { opcode, deallocate }, latency_us } => {
+            match monitor.completion(Command { opcode, deallocate, latency: latency_us }) {
+                CompletionAnswer::NotCounted => Answer::NotCounted,
+                CompletionAnswer::Counted { counter, loaded, debug } => Answer::Counted { counter, loaded, debug },
+            }
+        }
         Call::Elapsed(ms) => match monitor.elapsed(ms) {
             Ok(answer) => Answer::Elapsed { ended: answer == ElapsedAnswer::Ended },
             Err(refusal) => Answer::Refused(refusal.number()),

@@ -1,8 +1,8 @@
 //! Histories that try one thing at each of its values.
 
-use reference::history::{Call, Settings};
+use reference::history::{Call, Command, Settings};
 
-use crate::calls::{reached, KINDS};
+use crate::calls::{reached, OF_A_KIND};
 
 /// Longer than any buffer that a call accepts.
 const LONGEST: usize = 4_200;
@@ -37,19 +37,20 @@ fn settings() -> impl Iterator<Item = Vec<Call>> {
     named.chain((13..4_096).map(|place| with(place, 1)))
 }
 
-/// Each opcode, slow and below A, and both sides of each threshold for each kind.
+/// Each opcode without the deallocate attribute and with it, slow and below A, and both sides of each threshold for
+/// each command of a kind.
 fn completions() -> impl Iterator<Item = Vec<Call>> {
-    let opcodes = (0..=0xFF).map(|opcode| completed(base(), opcode, [50_000, 0]));
+    let commands = (0..=0xFF).flat_map(|opcode| [false, true].map(|deallocate| Command { opcode, deallocate }));
     let thresholds = (0..=0xFF).flat_map(|v| {
         let settings = Settings { thresholds: [v; 4], ..base() };
-        KINDS.map(|opcode| completed(settings, opcode, [reached(v) - 1, reached(v)]))
+        OF_A_KIND.map(|command| completed(settings, command, [reached(v) - 1, reached(v)]))
     });
-    opcodes.chain(thresholds)
+    commands.map(|command| completed(base(), command, [50_000, 0])).chain(thresholds)
 }
 
-/// Settings, and completions of an opcode.
-fn completed(settings: Settings, opcode: u8, latencies: [u32; 2]) -> Vec<Call> {
+/// Settings, and completions of a command.
+fn completed(settings: Settings, command: Command, latencies: [u32; 2]) -> Vec<Call> {
     let mut calls = vec![Call::Settings(settings.to_buffer())];
-    calls.extend(latencies.map(|latency_us| Call::Completion { opcode, latency_us }));
+    calls.extend(latencies.map(|latency_us| Call::Completion { command, latency_us }));
     calls
 }

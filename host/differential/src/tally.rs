@@ -1,12 +1,13 @@
-//! How often each call, refusal and answer was met, what became of counts below A, and each of the pages that are read.
+//! How often each call, refusal, answer and command was met, what became of counts below A, and each of the pages that
+//! are read.
 
 use std::fmt::{Display, Formatter, Result as Written};
 
 use reference::answers::Answer;
 use reference::facts::Facts;
-use reference::history::{Call, Window};
+use reference::history::{Call, Command, Window};
 
-use crate::calls::{reached, KINDS};
+use crate::calls::{reached, OF_A_KIND, OPCODES};
 
 /// A run that meets one of them less often has not tried it.
 const LEAST: u64 = 500;
@@ -24,6 +25,19 @@ const CALLS: [&str; 9] = [
 ];
 const REFUSALS: [&str; 10] = ["by 1", "by 2", "by 3", "by 4", "by 5", "by 6", "by 7", "by 8", "by 9", "by 10"];
 const ANSWERS: [&str; 6] = ["done", "not counted", "counted", "stamp loaded", "debug log taken", "window ended"];
+/// Enabled completions, by opcode, without the deallocate attribute or bit and with it.
+const COMMANDS: [&str; 10] = [
+    "Read without",
+    "Read with",
+    "Write without",
+    "Write with",
+    "Dataset Management without",
+    "Dataset Management with",
+    "Write Zeroes without",
+    "Write Zeroes with",
+    "other without",
+    "other with",
+];
 /// Completions that were counted, by kind, and what met counts that were not all zero: a window's end that moved them,
 /// and one that put others in their place; settings that emptied or kept them; a completion below A while disabled.
 const BELOW_A: [&str; 8] = ["Read", "Write", "Deallocate", "moved", "replaced", "emptied", "kept", "frozen"];
@@ -35,9 +49,16 @@ pub struct Tally {
     calls: [u64; CALLS.len()],
     refusals: [u64; REFUSALS.len()],
     answers: [u64; ANSWERS.len()],
+    /// Commands at A and above.
+    slow: [u64; COMMANDS.len()],
+    /// Commands below A.
+    fast: [u64; COMMANDS.len()],
     below_a: [u64; BELOW_A.len()],
     pages: [u64; PAGES.len()],
 }
+
+/// What is counted, its cases, and how often each was met.
+type Group<'a> = (&'static str, &'static [&'static str], &'a [u64]);
 
 impl Tally {
     /// So many histories, with no call yet.
@@ -60,6 +81,12 @@ impl Tally {
             Answer::Elapsed { ended } => self.answers[5] += u64::from(ended),
             Answer::BelowA(_) => {}
         }
+        if let Call::Completion { command, latency_us } = call {
+            if before.settings.enabled() {
+                let commands = if is_below_a(*latency_us, before) { &mut self.fast } else { &mut self.slow };
+                commands[case(*command)] += 1;
+            }
+        }
         for (sum, met) in self.below_a.iter_mut().zip(below_a(call, answer, before, after)) {
             *sum += u64::from(met);
         }
@@ -72,30 +99,45 @@ impl Tally {
 
     pub fn add(&mut self, other: &Tally) {
         self.histories += other.histories;
-        for (sum, more) in self.counts_mut().zip(other.counts()) {
+        for (sum, more) in self.counts_mut().zip(other.groups().into_iter().flat_map(|(_, _, counts)| counts)) {
             *sum += more;
         }
     }
 
     /// The tally, unless something was met too rarely.
     pub fn if_complete(self) -> Result<Tally, String> {
-        let names = CALLS.into_iter().chain(REFUSALS).chain(ANSWERS).chain(BELOW_A).chain(PAGES);
-        let rare: Vec<&str> = names.zip(self.counts()).filter(|&(_, n)| n < LEAST).map(|(name, _)| name).collect();
+        let rare: Vec<String> = self.groups().into_iter().flat_map(rare).collect();
         if rare.is_empty() {
             Ok(self)
         } else {
-            Err(format!("{self}\nmet fewer than {LEAST} times: {}", rare.join(", ")))
+            Err(format!("{self}\nmet fewer than {LEAST} times: {}", rare.join("; ")))
         }
     }
 
-    fn counts(&self) -> impl Iterator<Item = u64> + '_ {
-        self.calls.iter().chain(&self.refusals).chain(&self.answers).chain(&self.below_a).chain(&self.pages).copied()
+    fn groups(&self) -> [Group<'_>; 7] {
+        [
+            ("calls", &CALLS, &self.calls),
+            ("refused", &REFUSALS, &self.refusals),
+            ("answers", &ANSWERS, &self.answers),
+            ("slow commands, by deallocate attribute", &COMMANDS, &self.slow),
+            ("commands below A, by deallocate attribute", &COMMANDS, &self.fast),
+            ("counts below A", &BELOW_A, &self.below_a),
+            ("pages read", &PAGES, &self.pages),
+        ]
     }
 
+    /// In the order of the groups.
     fn counts_mut(&mut self) -> impl Iterator<Item = &mut u64> {
         let of_calls = self.calls.iter_mut().chain(&mut self.refusals).chain(&mut self.answers);
-        of_calls.chain(&mut self.below_a).chain(&mut self.pages)
+        let of_commands = self.slow.iter_mut().chain(&mut self.fast);
+        of_calls.chain(of_commands).chain(&mut self.below_a).chain(&mut self.pages)
     }
+}
+
+/// The cases that were met too rarely.
+fn rare((title, names, counts): Group<'_>) -> impl Iterator<Item = String> + '_ {
+    let rare = names.iter().zip(counts).filter(|&(_, &count)| count < LEAST);
+    rare.map(move |(name, _)| format!("{title}: {name}"))
 }
 
 fn kind(call: &Call) -> usize {
@@ -128,32 +170,34 @@ fn below_a(call: &Call, answer: Answer, before: &Facts, after: &Facts) -> [bool;
         ended && before.static_below_a != [0; 3],
         accepted && any(before) && !any(after),
         accepted && any(after),
-        any(before) && !before.settings.enabled() && is_below_a(call, before),
+        any(before) && !before.settings.enabled() && of_a_kind_below_a(call, before),
     ]
 }
 
-/// Whether the call is a completion of a kind below A.
-fn is_below_a(call: &Call, before: &Facts) -> bool {
+fn of_a_kind_below_a(call: &Call, before: &Facts) -> bool {
     match call {
-        Call::Completion { opcode, latency_us } => {
-            KINDS.contains(opcode) && *latency_us < reached(before.settings.thresholds[0])
-        }
+        Call::Completion { command, latency_us } => OF_A_KIND.contains(command) && is_below_a(*latency_us, before),
         _ => false,
     }
 }
 
-impl Display for Tally {
-    fn fmt(&self, f: &mut Formatter) -> Written {
-        writeln!(f, "{} histories, {} calls", self.histories, self.calls.iter().sum::<u64>())?;
-        writeln!(f, "calls: {}", listed(&CALLS, &self.calls))?;
-        writeln!(f, "refused: {}", listed(&REFUSALS, &self.refusals))?;
-        writeln!(f, "answers: {}", listed(&ANSWERS, &self.answers))?;
-        writeln!(f, "counts below A: {}", listed(&BELOW_A, &self.below_a))?;
-        write!(f, "pages read: {}", listed(&PAGES, &self.pages))
-    }
+fn is_below_a(latency_us: u32, before: &Facts) -> bool {
+    latency_us < reached(before.settings.thresholds[0])
 }
 
-fn listed(names: &[&str], counts: &[u64]) -> String {
-    let pairs: Vec<String> = names.iter().zip(counts).map(|(name, count)| format!("{name} {count}")).collect();
-    pairs.join(", ")
+/// Which of the commands it is.
+fn case(command: Command) -> usize {
+    let opcode = OPCODES.iter().position(|&opcode| opcode == command.opcode);
+    2 * opcode.unwrap_or(OPCODES.len()) + usize::from(command.deallocate)
+}
+
+impl Display for Tally {
+    fn fmt(&self, f: &mut Formatter) -> Written {
+        write!(f, "{} histories, {} calls", self.histories, self.calls.iter().sum::<u64>())?;
+        for (title, names, counts) in self.groups() {
+            let met: Vec<String> = names.iter().zip(counts).map(|(name, count)| format!("{name} {count}")).collect();
+            write!(f, "\n{title}: {}", met.join(", "))?;
+        }
+        Ok(())
+    }
 }

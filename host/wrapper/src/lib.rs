@@ -12,15 +12,22 @@
 //! let mut monitor = Monitor::new();
 //! monitor.configure(&settings)?;
 //! monitor.elapsed(1_000)?;
-//! let answer = monitor.completion(Command { opcode: 0x02, latency: 7_500 });
+//! let read = Command { opcode: 0x02, deallocate: false, latency: 7_500 };
+//! let answer = monitor.completion(read);
 //! assert_eq!(answer, CompletionAnswer::Counted { counter: 0, loaded: true, debug: true });
 //!
 //! let mut page = [0; PAGE_LENGTH];
 //! monitor.page(&mut page)?;
 //! assert_eq!(page[44], 1); // Reads in bucket 0
 //!
-//! assert_eq!(monitor.completion(Command { opcode: 0x02, latency: 300 }), CompletionAnswer::NotCounted);
+//! assert_eq!(monitor.completion(Command { latency: 300, ..read }), CompletionAnswer::NotCounted);
 //! assert_eq!(monitor.active_below_a().read, 1); // one of two Reads was below threshold A
+//!
+//! let trim = Command { opcode: 0x09, deallocate: true, latency: 7_500 }; // Dataset Management
+//! let answer = monitor.completion(trim);
+//! assert_eq!(answer, CompletionAnswer::Counted { counter: 2, loaded: true, debug: false });
+//! let hint = Command { deallocate: false, ..trim };
+//! assert_eq!(monitor.completion(hint), CompletionAnswer::NotCounted);
 //! # Ok::<(), latency_monitor::Refusal>(())
 //! ```
 

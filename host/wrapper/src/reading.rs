@@ -22,7 +22,7 @@ use crate::sys::{self, Reading};
 /// let mut monitor = Monitor::new();
 /// monitor.configure(&settings)?;
 /// monitor.elapsed(1_000)?;
-/// monitor.completion(Command { opcode: 0x01, latency: 7_500 });
+/// monitor.completion(Command { opcode: 0x01, deallocate: false, latency: 7_500 });
 /// let mut page = [0; PAGE_LENGTH];
 /// monitor.page(&mut page)?;
 ///

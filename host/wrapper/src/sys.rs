@@ -106,13 +106,16 @@ pub struct Reading {
     padding: [u8; 6],
 }
 
-/// A completed command.
+/// A completed command. Opcode 02h is Read and 01h is Write; 09h (Dataset Management) and 08h (Write Zeroes) are
+/// Deallocate if they have the deallocate attribute or bit, and are not counted without it.
 #[repr(C)]
 #[derive(Clone, Copy, Debug)]
 pub struct Command {
     /// In microseconds.
     pub latency: u32,
     pub opcode: u8,
+    /// The attribute of Dataset Management or the bit of Write Zeroes; not asked of other commands.
+    pub deallocate: bool,
 }
 
 #[repr(C)]
@@ -205,7 +208,7 @@ layout!(LogPage, 400, 8, {
 
 layout!(Reading, 408, 8, { page: 0, debug_held: 400, debug_counter: 401, padding: 402 });
 
-layout!(Command, 8, 4, { latency: 0, opcode: 4 });
+layout!(Command, 8, 4, { latency: 0, opcode: 4, deallocate: 5 });
 
 layout!(CompletionAnswer, 6, 2, { counter: 0, counted: 2, loaded: 3, debug: 4 });
 

@@ -4,12 +4,13 @@ use latency_monitor::{
     offsets, BelowA, Command, CompletionAnswer, ElapsedAnswer, Monitor, Refusal, PAGE_LENGTH, SETTINGS_LENGTH,
 };
 
-const READ: u8 = 0x02;
-const WRITE: u8 = 0x01;
-const DEALLOCATE: u8 = 0x09;
-const KINDS: [u8; 3] = [READ, WRITE, DEALLOCATE];
 /// The first latency that is not below A, in microseconds.
 const A: u32 = 5_000;
+/// Just below A.
+const READ: Command = Command { opcode: 0x02, deallocate: false, latency: A - 1 };
+const WRITE: Command = Command { opcode: 0x01, ..READ };
+const DEALLOCATE: Command = Command { opcode: 0x09, deallocate: true, ..READ };
+const KINDS: [Command; 3] = [READ, WRITE, DEALLOCATE];
 /// A window's length, in ms.
 const WINDOW: u32 = 300_000;
 /// Where a record has the counts of the active window.
@@ -31,15 +32,11 @@ fn enabled() -> Monitor {
     monitor
 }
 
-fn complete(monitor: &mut Monitor, opcode: u8, latency: u32) -> CompletionAnswer {
-    monitor.completion(Command { opcode, latency })
-}
-
 /// So many Reads, Writes and Deallocates just below A.
 fn complete_below_a(monitor: &mut Monitor, counts: [u32; 3]) {
-    for (opcode, times) in KINDS.into_iter().zip(counts) {
+    for (command, times) in KINDS.into_iter().zip(counts) {
         for _ in 0..times {
-            assert_eq!(complete(monitor, opcode, A - 1), CompletionAnswer::NotCounted);
+            assert_eq!(monitor.completion(command), CompletionAnswer::NotCounted);
         }
     }
 }
@@ -81,25 +78,16 @@ fn by_kind_and_window() {
 
 #[test]
 fn both_sides_of_a() {
-    for (kind, opcode) in KINDS.into_iter().enumerate() {
+    for (kind, command) in KINDS.into_iter().enumerate() {
         let mut monitor = enabled();
-        assert_eq!(complete(&mut monitor, opcode, 0), CompletionAnswer::NotCounted);
-        assert_eq!(complete(&mut monitor, opcode, A - 1), CompletionAnswer::NotCounted);
+        assert_eq!(monitor.completion(Command { latency: 0, ..command }), CompletionAnswer::NotCounted);
+        assert_eq!(monitor.completion(command), CompletionAnswer::NotCounted);
         let counted = CompletionAnswer::Counted { counter: kind, loaded: true, debug: true };
-        assert_eq!(complete(&mut monitor, opcode, A), counted);
+        assert_eq!(monitor.completion(Command { latency: A, ..command }), counted);
         let mut due = [0; 3];
         due[kind] = 2;
         assert_counts(&monitor, due, [0; 3]);
     }
-}
-
-#[test]
-fn other_opcodes_are_of_no_kind() {
-    let mut monitor = enabled();
-    for opcode in (0..=0xFF).filter(|opcode| !KINDS.contains(opcode)) {
-        assert_eq!(complete(&mut monitor, opcode, 0), CompletionAnswer::NotCounted);
-    }
-    assert_counts(&monitor, [0; 3], [0; 3]);
 }
 
 #[test]
@@ -153,7 +141,7 @@ fn other_calls_leave_them() {
     assert_eq!(monitor.set_clock(1 << 48), Err(Refusal::ClockValue));
     assert_eq!(monitor.elapsed(WINDOW + 1), Err(Refusal::ElapsedTime));
     assert_eq!(monitor.configure(&settings(2)), Err(Refusal::FlagAboveOne));
-    complete(&mut monitor, WRITE, A);
+    monitor.completion(Command { latency: A, ..WRITE });
     monitor.settings_back(&mut [0; SETTINGS_LENGTH]).unwrap();
     page(&monitor);
     assert_counts(&monitor, [6, 5, 4], [1, 2, 3]);

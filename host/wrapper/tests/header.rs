@@ -3,7 +3,7 @@
 use std::mem::offset_of;
 
 use latency_monitor::{
-    offsets, BelowA, Record, Refusal, COUNTERS, PAGE_LENGTH, READING_LENGTH, RECORD_LENGTH, RECORD_VERSION,
+    offsets, BelowA, Command, Record, Refusal, COUNTERS, PAGE_LENGTH, READING_LENGTH, RECORD_LENGTH, RECORD_VERSION,
     SETTINGS_LENGTH,
 };
 
@@ -77,8 +77,13 @@ fn assert_held(line: &str) {
 
 #[test]
 fn sizes() {
-    let below_a = size_of::<BelowA>();
-    for (name, size) in [("", RECORD_LENGTH), ("_reading", READING_LENGTH), ("_below_a", below_a)] {
+    let sizes = [
+        ("", RECORD_LENGTH),
+        ("_reading", READING_LENGTH),
+        ("_command", size_of::<Command>()),
+        ("_below_a", size_of::<BelowA>()),
+    ];
+    for (name, size) in sizes {
         assert_held(&format!("LATENCY_MONITOR_SIZE(latency_monitor{name}, {size});"));
     }
 }
@@ -94,5 +99,6 @@ fn places() {
     }
     places!(Record, "latency_monitor", [settings, timer, host_set, partial, static_below_a, active_below_a]);
     places!(Record, "latency_monitor", [clock, loaded, debug, static_window, active_window]);
+    places!(Command, "latency_monitor_command", [latency, opcode, deallocate]);
     places!(BelowA, "latency_monitor_below_a", [read, write, deallocate]);
 }

@@ -5,7 +5,8 @@ use latency_monitor::{
     UNSET,
 };
 
-const OPCODES: [u8; 3] = [0x02, 0x01, 0x09];
+/// An opcode of each kind, and its deallocate attribute.
+const KINDS: [(u8, bool); 3] = [(0x02, false), (0x01, false), (0x09, true)];
 const THRESHOLDS: [u8; 4] = [0, 1, 3, 9];
 
 /// Where a page has its fields.
@@ -44,7 +45,8 @@ fn monitor() -> Monitor {
 /// A command that counter n counts.
 fn complete(monitor: &mut Monitor, n: usize) {
     let latency = 5_000 * (u32::from(THRESHOLDS[n / 3]) + 1) + 1_000 * n as u32;
-    monitor.completion(Command { opcode: OPCODES[n % 3], latency });
+    let (opcode, deallocate) = KINDS[n % 3];
+    monitor.completion(Command { opcode, deallocate, latency });
 }
 
 fn page(monitor: &Monitor) -> [u8; PAGE_LENGTH] {

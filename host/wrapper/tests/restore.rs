@@ -31,9 +31,9 @@ const DEBUG_LATENCY: usize = 8;
 const DEBUG_SOURCE: usize = 10;
 const DEBUG_UNITS: usize = 12;
 
-const READ: Command = Command { opcode: 0x02, latency: 7_500 };
+const READ: Command = Command { opcode: 0x02, deallocate: false, latency: 7_500 };
 /// Below threshold A.
-const WRITE: Command = Command { opcode: 0x01, latency: 300 };
+const WRITE: Command = Command { opcode: 0x01, deallocate: false, latency: 300 };
 
 fn settings() -> [u8; SETTINGS_LENGTH] {
     let mut settings = [0; SETTINGS_LENGTH];

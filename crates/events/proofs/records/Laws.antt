@@ -1,19 +1,19 @@
 -- Laws of one record.
 use mathlib.Core.Path.{_≡_, refl, sym, ap, _∙_}
-use mathlib.Core.Bool.{Bool, true, false, cond, not, _&&_}
+use mathlib.Core.Bool.{Bool, true, false, cond, not, _&&_, and-false}
 use mathlib.Core.List.{List, [], _∷_}
 use mathlib.Core.Logic.{⊎-elim}
 use mathlib.Core.Option.{Option, none, some}
-use Prim.Native.Nat.{ℕ, _+_, _-_, _<_, _≤_}
+use Prim.Native.Nat.{ℕ, _+_, _-_, _*_, _<_, _≤_}
 use native.Mathlib.Nat.{zero-add, add-comm}
 use native.Mathlib.Numerals.{add-one}
 use native.Mathlib.Omega.{arith}
-use borrow.Author.Tests.{eq-eqb, ne-eqb, eqb-true}
+use borrow.Author.Tests.{eq-eqb, ne-eqb, eqb-true, le-leb, leb-true}
 use borrow.Rule.Slice.PartAt.{part-to-end}
 use denote.Enum.Declared.{tagOf}
-use lib.Dec.{eqb}
+use lib.Dec.{eqb, leb}
 use lib.ListN.{length, getD, set, take, drop, replicate, length-take, length-drop, length-replicate}
-use lib.Seq.{take-all, getD-drop, paste, paste-suc}
+use lib.Seq.{take-all, drop-cons, getD-drop, paste, paste-suc}
 use types.Run.{OneOf}
 use Rattle.endian.specs.Bytes.{anySet}
 use Rattle.endian.specs.Loads.{number}
@@ -34,7 +34,7 @@ use Rattle.monitor.specs.Record.{withBelowA, settingsAnswer, completionAnswer, 
 use Rattle.monitor.specs.Refusals.{settingsRefusal, elapsedRefusal, clockRefusal, pageRefusal, settingsBackRefusal}
 use Rattle.monitor.specs.Report.{pageAnswer, settingsBackAnswer}
 use Rattle.events.specs.Records.{recordKind, part, unnamed, settingsBytes, commandOf, elapsedOf, clockOf, callOfKind}
-use Rattle.events.specs.Records.{callOf, isCompletion, isElapsed}
+use Rattle.events.specs.Records.{attribute, completionOf, callOf, isKind, isCompletion, isElapsed}
 use Rattle.events.specs.Records.{recordRefusal, recordAnswer, afterRecord}
 
 -- a part of at most eight bytes is loaded whole
@@ -71,6 +71,40 @@ module _ (r : List ℕ) (from to rest a : ℕ) where
       false ≡ not (anySet (unnamed from to rest r))
   not-cleared ea na short =
       first-set (part from to r) (drop rest r) (λ e. na (ea ∙ (loaded (drop from r) (to - from) short ∙ e)))
+
+-- bytes 2 and 3, which are loaded as one number: the deallocate attribute or bit, and a byte that is unnamed
+module _ (r : List ℕ) (sixteen : length r ≡ 16) where
+  byte-three : number (part 3 4 r) ≡ getD r 3 0
+  unfolding number
+  byte-three = rw (drop-cons r 3 0 (omega arith)) (omega arith)
+
+  module _ (a : ℕ) (loads : a ≡ number (take 8 (take 2 (drop 2 r)))) where
+    both-bytes : a ≡ attribute r + 256 * getD r 3 0
+    unfolding number
+    both-bytes = rw (loads, drop-cons r 2 0 (omega arith), drop-cons r 3 0 (omega arith)) (omega arith)
+
+    pub attribute-few :
+        (b : ℕ) →
+        recordKind r ≡ 2 →
+        a ≤ 1 →
+        b ≡ number (take 8 (take (length r - 8) (drop 8 r))) →
+        eqb b 0 ≡ isCompletion r
+    unfolding isCompletion
+    attribute-few b kind few rest =
+        let low : leb (attribute r) 1 ≡ true = le-leb (attribute r) 1 (omega (arith, both-bytes)) in
+        let third : 0 ≡ number (take 8 (take 1 (drop 3 r))) =
+        omega (arith, loaded (drop 3 r) 1 (omega arith), byte-three, both-bytes) in
+        rw (low, eq-eqb (recordKind r) 2 kind) (cleared r 3 4 8 0 b third refl rest (omega arith) (omega arith))
+
+    pub attribute-above : 1 < a → false ≡ isCompletion r
+    unfolding isCompletion
+    attribute-above above = by (leb (attribute r) 1) refl
+      where
+        by : (t : Bool) → leb (attribute r) 1 ≡ t → false ≡ (t && isKind 2 3 4 8 r)
+        by false e = refl
+        by true e =
+            let set = first-set (part 3 4 r) (drop 8 r) (λ z. omega (arith, z, byte-three, both-bytes, leb-true (attribute r) 1 e)) in
+            rw (sym set, and-false (eqb (recordKind r) 2))
 
 -- one settings byte more
 pub one-byte :
@@ -176,11 +210,16 @@ module _ (r : List ℕ) (sixteen : length r ≡ 16) where
       by true e false h = (cc, cc)
       by false e clear h = (cc, cc)
 
+  both-true : (a b : Bool) → (a && b) ≡ true → (a ≡ true) × (b ≡ true)
+  both-true true b h = (refl, h)
+  both-true false b h = (cc, cc)
+
   pub completion-call : (c : Command) → c ≡ commandOf r → isCompletion r ≡ true → callOf r ≡ some (completion c)
-  unfolding callOfKind isCompletion
+  unfolding callOfKind completionOf isCompletion
   completion-call c e h =
-      let is = is-kind 2 (unnamed 2 4 8 r) h in
-      rw e (known-call 2 (unnamed 2 4 8 r) (completion (commandOf r)) refl (is .0) (is .1))
+      let few = both-true (leb (attribute r) 1) (isKind 2 3 4 8 r) h in
+      let is = is-kind 2 (unnamed 3 4 8 r) (few .1) in
+      rw e (known-call 2 (unnamed 3 4 8 r) (completion (commandOf r)) (rw (few .0)) (is .0) (is .1))
 
   pub elapsed-call :
       (ms : ℕ) →
@@ -200,7 +239,7 @@ module _ (r : List ℕ) (sixteen : length r ≡ 16) where
       (recordKind r ≡ 4 → ⊥) →
       (recordKind r ≡ 5 → ⊥) →
       callOf r ≡ none
-  unfolding callOf callOfKind isCompletion isElapsed
+  unfolding callOf callOfKind completionOf isCompletion isElapsed
   unknown-kind h2 h3 n1 n4 n5 =
       rw (
         eq-eqb (length r) 16 sixteen,
@@ -208,7 +247,7 @@ module _ (r : List ℕ) (sixteen : length r ≡ 16) where
         ne-eqb (recordKind r) 4 n4,
         ne-eqb (recordKind r) 5 n5,
       )
-      (by (eqb (recordKind r) 2) (anySet (unnamed 2 4 8 r)) (completion (commandOf r)) _ h2
+      (first (eqb (recordKind r) 2) (leb (attribute r) 1) (anySet (unnamed 3 4 8 r)) (completion (commandOf r)) _ h2
       (by (eqb (recordKind r) 3) (anySet (unnamed 1 4 8 r)) (elapsed (elapsedOf r)) _ h3 refl))
     where
       by :
@@ -219,6 +258,15 @@ module _ (r : List ℕ) (sixteen : length r ≡ 16) where
       by true true c o h e = refl
       by true false c o h e = cc
       by false u c o h e = e
+
+      first :
+          (k few u : Bool) (c : Call) (o : Option Call) →
+          (few && (k && not u)) ≡ false →
+          o ≡ none →
+          cond k (cond few (cond u none (some c)) none) o ≡ none
+      first k true u c o h e = by k u c o h e
+      first true false u c o h e = refl
+      first false false u c o h e = e
 
 -- a completion is not refused
 pub completion-accepted : (r : List ℕ) (c : Command) → callOf r ≡ some (completion c) → recordRefusal r ≡ none

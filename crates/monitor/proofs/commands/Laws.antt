@@ -1,6 +1,6 @@
 -- Laws of the search for a bucket, and of the counter that it leads to.
 use mathlib.Core.Path.{_≡_, refl, sym, _∙_}
-use mathlib.Core.Bool.{Bool, true, false, cond, true≢false}
+use mathlib.Core.Bool.{Bool, true, false, cond, true≢false, _&&_, _||_, and-false}
 use mathlib.Core.List.{List}
 use mathlib.Core.Option.{Option, none, some}
 use Prim.Native.Nat.{ℕ, zero, suc, _+_, _*_, _-_, _<_}
@@ -67,7 +67,14 @@ unfolding kindOf
 kind-below c =
     either (eqb (c .opcode) 2) (present {x = 0} (omega arith))
     (either (eqb (c .opcode) 1) (present {x = 1} (omega arith))
-    (either (eqb (c .opcode) 9) (present {x = 2} (omega arith)) absent))
+    (either ((eqb (c .opcode) 9 || eqb (c .opcode) 8) && c .deallocate) (present {x = 2} (omega arith)) absent))
+
+plain-below : (c : Command) → c .deallocate ≡ false → Below 2 (kindOf c)
+unfolding kindOf
+plain-below c without =
+    rw (without, and-false (eqb (c .opcode) 9 || eqb (c .opcode) 8))
+    (either (eqb (c .opcode) 2) (present {x = 0} (omega arith))
+    (either (eqb (c .opcode) 1) (present {x = 1} (omega arith)) absent))
 
 at-below : {b k : Option ℕ} → Below 4 b → Below 3 k → Below 12 (counterAt b k)
 at-below absent q = absent
@@ -92,6 +99,10 @@ counter-below s c n e =
 -- there are three kinds
 pub kind-few : (c : Command) (k : ℕ) → kindOf c ≡ some k → k < 3
 kind-few c k e = inside (rw e at (kind-below c))
+
+-- without the deallocate attribute or bit there are two
+pub kind-plain : (c : Command) (k : ℕ) → c .deallocate ≡ false → kindOf c ≡ some k → k < 2
+kind-plain c k without e = inside (rw e at (plain-below c without))
 
 -- a disabled monitor counts nothing
 pub counter-enabled : (s : Settings) (c : Command) (n : ℕ) → counterOf s c ≡ some n → s .enabled ≡ true

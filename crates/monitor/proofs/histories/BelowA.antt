@@ -6,7 +6,7 @@ use mathlib.Core.List.{List, [], _∷_}
 use mathlib.Core.Option.{Option, none, some}
 use native.Mathlib.Omega.{arith}
 use lib.Dec.{eqb}
-use lib.ListN.{length, getD}
+use lib.ListN.{length, getD, replicate}
 use borrow.Author.Tests.{eq-eqb, ne-eqb, eqb-true, eqb-false}
 use Rattle.logpage.specs.Fields.{from}
 use Rattle.monitor.specs.declared.report.WindowChoice.{WindowChoice}
@@ -17,7 +17,7 @@ use Rattle.monitor.specs.Claims.{recordOf, BelowAShowsFacts, fiveCounts,
 use Rattle.monitor.specs.Facts.{inForce, enablingIn, sum, Completed, completedIf, completedAt}
 use Rattle.monitor.specs.Facts.{sinceEnabled, Counted, countedOf, countedSince, filter, filterMap, isIn}
 use Rattle.monitor.specs.Facts.{counterIn, active, static, countOf, isFast, ofKind, ofKindBelowA, belowACounts}
-use Rattle.monitor.specs.History.{Effect, completionIn, Past, pastOf, play, found, andThen}
+use Rattle.monitor.specs.History.{Effect, completionIn, History, Past, pastOf, play, found, andThen}
 use Rattle.monitor.specs.Report.{chosenWindow, countsBelowA}
 use Rattle.monitor.specs.declared.commands.Command.{Command}
 use Rattle.monitor.proofs.commands.Laws.{Becomes, slow, fast, kindless, disabled, becomes}
@@ -201,7 +201,14 @@ described-five past w k few = λ i. by w i ∷ from-same 0 4 _ _ (slow-at w) i
     slow-at Active b l low = entry 12 (λ n. countOf (slow-in Active past n)) 0 (3 * b + k) (omega arith)
     slow-at Static b l low = entry 12 (λ n. countOf (slow-in Static past n)) 0 (3 * b + k) (omega arith)
 
+no-count : {A : Type 0} (xs : List A) → length xs ≡ 0 → countOf xs ≡ 0
+unfolding countOf
+no-count xs e = omega arith
+
 module _ (past : Past) (w : WindowChoice) (k : ℕ) (few : k < 3) where
+  together : AddUp (isIn w past) k few (sinceEnabled past) (countedSince past)
+  together = add-up (isIn w past) k few (sinceEnabled past) (since-all Falls enablingIn completedAt falls past)
+
   -- a list of counts whose entries are below their top adds up
   abbrev Sums : List ℕ → Type 0
   Sums counts = All (λ count. count < countTop) counts → sum counts ≡ length (ofKind w past k)
@@ -211,7 +218,7 @@ module _ (past : Past) (w : WindowChoice) (k : ℕ) (few : k < 3) where
   five-add-up top =
       omega (
         arith,
-        add-up (isIn w past) k few (sinceEnabled past) (since-all Falls enablingIn completedAt falls past),
+        together,
         top .0,
         top .1 .0,
         top .1 .1 .0,
@@ -219,8 +226,24 @@ module _ (past : Past) (w : WindowChoice) (k : ℕ) (few : k < 3) where
         top .1 .1 .1 .1 .0,
       )
 
+  -- of no completion all five are zero
+  five-zero : ofKind w past k ≡ [] → five w past k ≡ replicate 5 0
+  unfolding countOf from ofKind ofKindBelowA
+  five-zero empty =
+      let none-there : length (ofKind w past k) ≡ 0 = rw empty in
+      λ i. no-count (ofKindBelowA w past k) (omega (arith, together)) i ∷
+      no-count (slow-in w past (3 * 0 + k)) (omega (arith, together)) i ∷
+      no-count (slow-in w past (3 * 1 + k)) (omega (arith, together)) i ∷
+      no-count (slow-in w past (3 * 2 + k)) (omega (arith, together)) i ∷
+      no-count (slow-in w past (3 * 3 + k)) (omega (arith, together)) i ∷ []
+
+module _ (h : History) (w : WindowChoice) (k : ℕ) (few : k < 3) where
+  as-facts : fiveCounts w (play h) k ≡ five w (pastOf h) k
+  as-facts = ap (λ m. fiveCounts w m k) (played-as-facts h) ∙ described-five (pastOf h) w k few
+
+  pub all-zero : ofKind w (pastOf h) k ≡ [] → fiveCounts w (play h) k ≡ replicate 5 0
+  all-zero empty = as-facts ∙ five-zero (pastOf h) w k few empty
+
 pub five-counts-add-up : FiveCountsAddUp
 five-counts-add-up h w k few =
-    let as-facts : fiveCounts w (play h) k ≡ five w (pastOf h) k =
-    ap (λ m. fiveCounts w m k) (played-as-facts h) ∙ described-five (pastOf h) w k few in
-    subst (Sums (pastOf h) w k few) (sym as-facts) (five-add-up (pastOf h) w k few)
+    subst (Sums (pastOf h) w k few) (sym (as-facts h w k few)) (five-add-up (pastOf h) w k few)

@@ -30,7 +30,7 @@ use Rattle.monitor.specs.Settings.{decoded}
 use Rattle.monitor.proofs.refusals.Laws.{Accepted, accepted}
 use Rattle.monitor.proofs.commands.Laws.{counter-below}
 use Rattle.monitor.proofs.histories.Facts.{Good, enabled-positive, clock-top}
-use Rattle.monitor.proofs.histories.Lists.{All, Some, all-those, length-from}
+use Rattle.monitor.proofs.histories.Lists.{All, Some, every, all-those, length-from}
 use Rattle.monitor.proofs.histories.Play.{good}
 use Rattle.monitor.proofs.histories.Windows.{high}
 
@@ -45,14 +45,13 @@ module _ {A : Type 0} (P : A → Type 0) where
       by none k earlier = earlier
       by (some x) k earlier = k
 
-  pub since-all :
-      {B : Type 0} (start : Effect → Option B) (f : Effect → Past → Option A) →
-      ((e : Effect) (past : Past) → Some P (f e past)) →
-      (past : Past) →
+  pub since-each :
+      {B : Type 0} (start : Effect → Option B) (f : Effect → Past → Option A) (past : Past) →
+      All (λ e. (before : Past) → Some P (f e before)) past →
       All P (since start f past)
   unfolding since
-  since-all start f k [] = tt
-  since-all {B = B} start f k (e ∷ past) = by (start e) (f e past) (k e past) (since-all start f k past)
+  since-each start f [] a = tt
+  since-each {B = B} start f (e ∷ past) a = by (start e) (f e past) (a .0 past) (since-each start f past (a .1))
     where
       by :
           (b : Option B) (o : Option A) →
@@ -62,6 +61,13 @@ module _ {A : Type 0} (P : A → Type 0) where
       by (some y) o q earlier = tt
       by none none q earlier = earlier
       by none (some x) q earlier = (q, earlier)
+
+  pub since-all :
+      {B : Type 0} (start : Effect → Option B) (f : Effect → Past → Option A) →
+      ((e : Effect) (past : Past) → Some P (f e past)) →
+      (past : Past) →
+      All P (since start f past)
+  since-all start f k past = since-each start f past (every k past)
 
 -- settings made of bytes
 settings-of-bytes : (s : List ℕ) → Bytes s → FitsSettings (decoded s)

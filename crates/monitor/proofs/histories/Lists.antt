@@ -79,6 +79,10 @@ abbrev pub Some : {A : Type 0} → (A → Type 0) → Option A → Type 0
 Some P none = Unit {0}
 Some P (some x) = P x
 
+pub every : {A : Type 0} {P : A → Type 0} → ((x : A) → P x) → (xs : List A) → All P xs
+every f [] = tt
+every f (x ∷ xs) = (f x, every f xs)
+
 pub all-map : {A : Type 0} {P Q : A → Type 0} → ((x : A) → P x → Q x) → (xs : List A) → All P xs → All Q xs
 all-map f [] h = tt
 all-map f (x ∷ xs) h = (f x (h .0), all-map f xs (h .1))

@@ -1,15 +1,23 @@
--- `is_elapsed`: its kind.
-use Rattle.events.specs.Records.{isElapsed}
+-- `is_elapsed`: its kind, and the bytes that the kind leaves unnamed.
+use borrow.Author.Tests.{eq-eqb, ne-eqb}
 use borrow.Author.Needs.{needs}
+use Rattle.events.specs.Records.{isElapsed}
 use Rattle.events.proofs.records.is_elapsed.Statement.{statement}
 use Rattle.events.proofs.records.is_elapsed.Tie as tie
 
-is-kind-requires : tie.Need-is-kind-requires
-is-kind-requires c κs = search needs
+shared-slice-read-if1 : tie.Need-shared-slice-read-if1
+shared-slice-read-if1 c = search needs
+
+clear-requires : tie.Need-clear-requires
+clear-requires c κs = search needs
 
 returns : tie.Need-returns
 unfolding isElapsed
-returns c = c .is-kind .ensures
+returns c = rw (eq-eqb _ _ (c .before .if1 .taken)) (c .clear .ensures)
+
+returns-2 : tie.Need-returns-2
+unfolding isElapsed
+returns-2 c = rw (ne-eqb _ _ (c .if1 .left))
 
 pub is-elapsed-spec : {M : Type 1} → statement M
-is-elapsed-spec = tie.close (tie.spec is-kind-requires returns)
+is-elapsed-spec = tie.close (tie.spec shared-slice-read-if1 clear-requires returns returns-2)

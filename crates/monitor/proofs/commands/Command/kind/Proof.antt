@@ -1,8 +1,12 @@
--- `Command::kind`: one return for each opcode of the definition, and one for the rest.
+-- `Command::kind`: Read, Write, and what may deallocate.
 use borrow.Author.Tests.{ne-eqb}
+use borrow.Author.Needs.{needs}
 use Rattle.monitor.specs.Commands.{kindOf}
 use Rattle.monitor.proofs.commands.Command.kind.Statement.{statement}
 use Rattle.monitor.proofs.commands.Command.kind.Tie as tie
+
+deallocating-requires : tie.Need-deallocating-requires
+deallocating-requires c κs = search needs
 
 returns : tie.Need-returns
 unfolding kindOf
@@ -14,12 +18,9 @@ returns-2 c = rw (c .match .keys2)
 
 returns-3 : tie.Need-returns-3
 unfolding kindOf
-returns-3 c = rw (c .match .keys3)
-
-returns-4 : tie.Need-returns-4
-unfolding kindOf
-returns-4 c =
-    simp (ne-eqb _ _ (c .match .rest .0 .0 .1), ne-eqb _ _ (c .match .rest .0 .1), ne-eqb _ _ (c .match .rest .1))
+returns-3 c =
+    let n = c .before .match .rest in
+    rw (ne-eqb _ 2 (n .0 .1), ne-eqb _ 1 (n .1)) (c .deallocating .ensures)
 
 pub kind-spec : {M : Type 1} → statement M
-kind-spec = tie.close (tie.spec returns returns-2 returns-3 returns-4)
+kind-spec = tie.close (tie.spec deallocating-requires returns returns-2 returns-3)
