@@ -184,7 +184,7 @@ static uint64_t completed(struct in_place *m, uint16_t command, uint32_t us)
 struct latency_monitor_completion_answer in_place_completion(
     struct in_place *m, struct latency_monitor_command command)
 {
-    /* The attribute is the byte after the opcode. */
+    /* Opcode and attribute, the byte after it, as one number: one index into the table of kinds. */
     const uint8_t *opcode = (const uint8_t *)&command + offsetof(struct latency_monitor_command, opcode);
     union {
         uint64_t number;

@@ -31,7 +31,7 @@ static int configure(struct in_place *m, const uint8_t *named)
     return in_place_configure(m, settings, sizeof settings);
 }
 
-/* A record has the attribute after the opcode, as a command has. */
+/* One copy for opcode and attribute, which stand side by side in a record and in a command. */
 static int complete(struct in_place *m, const uint8_t *record, uint32_t us)
 {
     struct latency_monitor_command command = {.latency = us};

@@ -49,11 +49,11 @@ static void complete_others(void)
 {
     const struct latency_monitor_command read = {.opcode = 0x02, .latency = 300};
     const struct latency_monitor_command write_zeroes = {.opcode = 0x08, .deallocate = true, .latency = 300};
-    const struct latency_monitor_command hint = {.opcode = 0x09, .deallocate = false, .latency = 7500};
+    const struct latency_monitor_command without = {.opcode = 0x09, .deallocate = false, .latency = 7500};
 
     complete_without_a_counter(read, "a Read below threshold A has no counter");
-    complete_without_a_counter(write_zeroes, "nor has a Deallocate below it");
-    complete_without_a_counter(hint, "Dataset Management without its attribute is no Deallocate");
+    complete_without_a_counter(write_zeroes, "a Deallocate below threshold A has no counter");
+    complete_without_a_counter(without, "Dataset Management without its attribute is no Deallocate");
 }
 
 static void compare_counts(void)

@@ -2,8 +2,8 @@
 
 use crate::events::{Events, RECORD};
 use crate::groups::{
-    base, each_counter, each_kind, random_event, random_mixture, start, BELOW, DEALLOCATE, HINT, LARGEST, READ, WRITE,
-    WRITE_ZEROES, WRITE_ZEROES_DEAC,
+    base, each_counter, each_kind, random_event, random_mixture, start, BELOW, DATASET_MANAGEMENT, DEALLOCATE, LARGEST,
+    READ, WRITE, WRITE_ZEROES, WRITE_ZEROES_DEAC,
 };
 use crate::history::{Command, Settings};
 use crate::random::Random;
@@ -42,8 +42,8 @@ fn every_opcode() -> Vec<Events> {
     files
 }
 
-/// One command a file, so that a wrong kind shows below A too: each opcode that differs from 08h or 09h in one bit, as
-/// these two do from each other and Write does from 09h, the next one below, and Read.
+/// One command a file, so that a wrong kind shows below A too: 08h, 09h, every opcode that differs from one of them in
+/// one bit (Write does), 07h and Read.
 fn alone() -> Vec<Events> {
     let near = (0..8).flat_map(|bit| [0x08 ^ 1 << bit, 0x09 ^ 1 << bit]);
     let settings = Settings { mode: LARGEST, debug_trigger: 0x0FFF, ..base() };
@@ -92,23 +92,23 @@ fn bytes_of_others() -> Vec<Events> {
 /// Dataset Management and Write Zeroes share a counter's stamp and the debug log, and without their attribute or bit
 /// they have no part in them, nor in the minimum window.
 fn in_one_counter() -> Vec<Events> {
-    let hints = |file: Events, us| file.completion(HINT, us).completion(WRITE_ZEROES, us);
+    let without = |file: Events, us| file.completion(DATASET_MANAGEMENT, us).completion(WRITE_ZEROES, us);
     let mut files = Vec::new();
     for (first, second) in [(DEALLOCATE, WRITE_ZEROES_DEAC), (WRITE_ZEROES_DEAC, DEALLOCATE)] {
         for mode in [0, LARGEST] {
             let settings = Settings { mode, minimum_window: 1, debug_trigger: 0x0FFF, ..base() };
             for (ms, us) in [(50, 5_000), (50, 6_000), (49, 7_000), (50, 7_000)] {
-                let file = hints(start(settings), 5_500).elapsed(50).completion(first, 6_000);
-                let file = hints(file.elapsed(50), 9_000).elapsed(ms).completion(second, us);
-                files.push(hints(file.elapsed(100), 8_000));
+                let file = without(start(settings), 5_500).elapsed(50).completion(first, 6_000);
+                let file = without(file.elapsed(50), 9_000).elapsed(ms).completion(second, us);
+                files.push(without(file.elapsed(100), 8_000));
             }
         }
     }
     // The log is taken after a discard, by the first that has its attribute or bit.
     for trigger in [DEALLOCATE, WRITE_ZEROES_DEAC] {
         let settings = Settings { debug_trigger: 0x0020, ..base() };
-        let file = hints(start(settings).elapsed(3), 10_000).elapsed(3).completion(trigger, 11_000);
-        let file = hints(file.elapsed(3).settings(Settings { discard: 1, ..settings }), 12_000);
+        let file = without(start(settings).elapsed(3), 10_000).elapsed(3).completion(trigger, 11_000);
+        let file = without(file.elapsed(3).settings(Settings { discard: 1, ..settings }), 12_000);
         files.push(file.clone());
         files.push(file.elapsed(3).completion(trigger, 13_000).completion(DEALLOCATE, 14_000));
     }
@@ -119,7 +119,7 @@ fn in_one_counter() -> Vec<Events> {
 /// times, so that a count says which of them it has.
 fn each_command(file: Events, us: u32) -> Events {
     let file = [READ, WRITE].into_iter().fold(file, |f, c| f.completion(Command { deallocate: true, ..c }, us));
-    let often = [(DEALLOCATE, 1), (WRITE_ZEROES_DEAC, 2), (HINT, 4), (WRITE_ZEROES, 8)];
+    let often = [(DEALLOCATE, 1), (WRITE_ZEROES_DEAC, 2), (DATASET_MANAGEMENT, 4), (WRITE_ZEROES, 8)];
     often.into_iter().fold(file, |file, (command, times)| (0..times).fold(file, |f, _| f.completion(command, us)))
 }
 
@@ -131,12 +131,16 @@ fn windows_and_settings() -> Vec<Events> {
     for us in [BELOW, 10_000] {
         let before = each_command(Events::default(), us);
         let ended = each_command(start(enabled), us).elapsed(300_000);
-        let next = ended.clone().completion(WRITE_ZEROES, us).completion(WRITE_ZEROES_DEAC, us).completion(HINT, us);
+        let next = ended
+            .clone()
+            .completion(WRITE_ZEROES, us)
+            .completion(WRITE_ZEROES_DEAC, us)
+            .completion(DATASET_MANAGEMENT, us);
         let frozen = each_command(next.clone().settings(disabled), us);
         files.push(each_command(before.clone().settings(enabled), us));
         files.push(before.settings(disabled).settings(enabled));
         files.push(each_command(ended, us));
-        files.push(next.clone().elapsed(300_000).completion(HINT, us));
+        files.push(next.clone().elapsed(300_000).completion(DATASET_MANAGEMENT, us));
         files.push(frozen.clone().elapsed(300_000).power_up());
         files.push(each_command(frozen.settings(enabled), us));
         files.push(each_command(next.settings(Settings { thresholds: [1, 1, 3, 9], ..enabled }), us + 1));

@@ -12,7 +12,7 @@ pub(crate) const READ: Command = Command { opcode: 0x02, deallocate: false };
 pub(crate) const WRITE: Command = Command { opcode: 0x01, deallocate: false };
 /// Dataset Management with its deallocate attribute, and without it.
 pub(crate) const DEALLOCATE: Command = Command { opcode: 0x09, deallocate: true };
-pub(crate) const HINT: Command = Command { opcode: 0x09, deallocate: false };
+pub(crate) const DATASET_MANAGEMENT: Command = Command { opcode: 0x09, deallocate: false };
 /// Write Zeroes with its deallocate bit, and without it.
 pub(crate) const WRITE_ZEROES_DEAC: Command = Command { opcode: 0x08, deallocate: true };
 pub(crate) const WRITE_ZEROES: Command = Command { opcode: 0x08, deallocate: false };
@@ -485,7 +485,7 @@ fn debug_triggers() -> Vec<Events> {
     }
     // What does not count does not trigger.
     let file = start(with(0x0FFF)).completion(READ, BELOW);
-    files.push(file.completion(WRITE_ZEROES, 50_000).completion(HINT, 50_000));
+    files.push(file.completion(WRITE_ZEROES, 50_000).completion(DATASET_MANAGEMENT, 50_000));
     files.push(start(Settings { enable: 0, ..with(0x0FFF) }).completion(READ, 50_000));
     // The trigger of its own place decides: not the settings accepted later.
     files.push(start(with(0)).completion(READ, 5_000).settings(Settings { enable: 0, ..with(1) }));

@@ -2,7 +2,8 @@ use crate::answers::{answer, answers, Answer};
 use crate::events::{printed, read, record_answers, Events, Preset, Refused};
 use crate::facts::{facts, in_force, Facts, BELOW_A};
 use crate::groups::{
-    each_kind, example, groups, random_mixture, BELOW, DEALLOCATE, HINT, READ, WRITE_ZEROES, WRITE_ZEROES_DEAC,
+    each_kind, example, groups, random_mixture, BELOW, DATASET_MANAGEMENT, DEALLOCATE, READ, WRITE_ZEROES,
+    WRITE_ZEROES_DEAC,
 };
 use crate::history::{accepted_elapsed, accepted_settings, refusal, Call, Command, Settings, Window, INCREMENT_MS};
 use crate::page::{page, page_bytes, settings_back};
@@ -417,7 +418,10 @@ fn kinds_of_commands() {
 fn write_zeroes_on_the_page() {
     for (bucket, us) in [5_000, 10_000, 20_000, 50_000].into_iter().enumerate() {
         let file = Events::default().settings(Settings { debug_trigger: 0x0FFF, ..base() }).elapsed(9);
-        let file = file.completion(HINT, us).completion(WRITE_ZEROES, us + 1_000).completion(HINT, BELOW);
+        let file = file
+            .completion(DATASET_MANAGEMENT, us)
+            .completion(WRITE_ZEROES, us + 1_000)
+            .completion(DATASET_MANAGEMENT, BELOW);
         let file = file.elapsed(0x1234 - 9).completion(WRITE_ZEROES_DEAC, us).completion(WRITE_ZEROES_DEAC, BELOW);
         let page = page_of(file.clone());
         let stamp = 32 + 64 + 24 * (3 - bucket);

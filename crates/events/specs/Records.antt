@@ -44,6 +44,7 @@ attribute r = getD r 2 0
 unfoldable pub commandOf : List ℕ → Command
 commandOf r = record { opcode = getD r 1 0; deallocate = eqb (attribute r) 1; latency = number (part 4 8 r) }
 
+-- with more in that byte a record stands for no call, whatever the opcode
 unfoldable pub completionOf : List ℕ → Option Call
 completionOf r = cond (leb (attribute r) 1) (ifClear (unnamed 3 4 8 r) (completion (commandOf r))) none
 

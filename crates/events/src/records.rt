@@ -1,7 +1,7 @@
 // One record: the call that it stands for.
 ghost use mathlib.Core.Path.{_≡_};
 ghost use mathlib.Core.Bool.{true, false, not};
-ghost use Prim.Native.Nat.{_+_, _≤_, _<_};
+ghost use Prim.Native.Nat.{_+_, _≤_};
 ghost use lib.ListN.{length, replicate};
 ghost use Rattle.endian.specs.Bytes.{anySet};
 ghost use Rattle.monitor.specs.Answers.{saysAnswer, saysElapsed, refused};
@@ -17,7 +17,7 @@ use monitor::Outcome;
 // The bytes of a record.
 pub const RECORD: usize = 16;
 
-// The refusal of a record whose kind is unknown, or that has an unnamed byte set.
+// The refusal of a record whose kind is unknown, that has an unnamed byte set, or a deallocate attribute above 1.
 pub const UNKNOWN_RECORD: u8 = 11;
 
 const SETTINGS: u8 = 1;

@@ -25,15 +25,15 @@ saysBucket (bucket.At b) = some b
 saysBucket bucket.Below = none
 
 -- 02, Ticket 4: Dataset Management, 9, and Write Zeroes, 8, are Deallocate with the deallocate attribute or bit
-abbrev pub deallocating : ℕ → Bool → Option ℕ
-deallocating opcode attribute = cond ((eqb opcode 9 || eqb opcode 8) && attribute) (some 2) none
+abbrev pub kindByAttribute : ℕ → Bool → Option ℕ
+kindByAttribute opcode attribute = cond ((eqb opcode 9 || eqb opcode 8) && attribute) (some 2) none
 
--- 01, A completion: the kind that an opcode has; a Read or Write is not asked for the attribute
+-- 01, A completion, with 02, Ticket 4: the kind of a command; a Read or Write is not asked for the attribute
 unfoldable pub kindOf : Command → Option ℕ
 kindOf c =
     cond (eqb (c .opcode) 2) (some 0)
     (cond (eqb (c .opcode) 1) (some 1)
-    (deallocating (c .opcode) (c .deallocate)))
+    (kindByAttribute (c .opcode) (c .deallocate)))
 
 -- 01, Settings: threshold byte 0 is 5 ms, and each further one 5 ms more. 01, A completion: an equal latency reaches it
 abbrev pub reaches : ℕ → ℕ → Bool

@@ -2,8 +2,9 @@
 ghost use mathlib.Core.Path.{_≡_};
 ghost use mathlib.Core.Option.{some};
 ghost use Prim.Native.Nat.{_<_};
-ghost use Rattle.monitor.specs.Commands.{deallocating, kindOf, reaches, bucketOf, counterAt, counterOf};
-ghost use Rattle.monitor.specs.Commands.{millisecondsOf, isBelowA, belowAOf, saysKind, saysBucket, counterNumber, kindNumber};
+ghost use Rattle.monitor.specs.Commands.{kindByAttribute, kindOf, reaches, bucketOf, counterAt, counterOf};
+ghost use Rattle.monitor.specs.Commands.{isBelowA, belowAOf, millisecondsOf, saysKind, saysBucket};
+ghost use Rattle.monitor.specs.Commands.{counterNumber, kindNumber};
 ghost use Rattle.monitor.specs.Counting.{countedBelowA};
 use crate::counting;
 use logpage::Settings;
@@ -46,8 +47,8 @@ fn reaches(latency: u32, threshold: u8) -> bool
 }
 
 // The kind of a command that is neither Read nor Write, by its opcode and its deallocate attribute or bit.
-fn deallocating(opcode: u8, attribute: bool) -> Kind
-    ensures { λ r. ⌜ saysKind r ≡ deallocating opcode attribute ⌝ }
+fn kind_by_attribute(opcode: u8, attribute: bool) -> Kind
+    ensures { λ r. ⌜ saysKind r ≡ kindByAttribute opcode attribute ⌝ }
 {
     if attribute {
         match opcode {
@@ -95,7 +96,7 @@ impl Command {
         match opcode {
             2 => Kind::Read,
             1 => Kind::Write,
-            _ => deallocating(opcode, self.deallocate),
+            _ => kind_by_attribute(opcode, self.deallocate),
         }
     }
 
@@ -156,7 +157,7 @@ impl Command {
         }
     }
 
-    // The counts below threshold A, by kind, after the completion. One of no kind is spared the write.
+    // The counts below threshold A, by kind, after the completion. One of no kind skips the write, which is quicker.
     pub fn counts_below_a(self, s: Settings, counts: [u32; 3]) -> [u32; 3]
         ensures { λ r. ⌜ r ≡ countedBelowA (belowAOf s self) counts ⌝ }
     {

@@ -26,8 +26,8 @@
 //! let trim = Command { opcode: 0x09, deallocate: true, latency: 7_500 }; // Dataset Management
 //! let answer = monitor.completion(trim);
 //! assert_eq!(answer, CompletionAnswer::Counted { counter: 2, loaded: true, debug: false });
-//! let hint = Command { deallocate: false, ..trim };
-//! assert_eq!(monitor.completion(hint), CompletionAnswer::NotCounted);
+//! let without = Command { deallocate: false, ..trim };
+//! assert_eq!(monitor.completion(without), CompletionAnswer::NotCounted);
 //! # Ok::<(), latency_monitor::Refusal>(())
 //! ```
 

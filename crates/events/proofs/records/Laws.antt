@@ -103,8 +103,9 @@ module _ (r : List ℕ) (sixteen : length r ≡ 16) where
         by : (t : Bool) → leb (attribute r) 1 ≡ t → false ≡ (t && isKind 2 3 4 8 r)
         by false e = refl
         by true e =
-            let set = first-set (part 3 4 r) (drop 8 r) (λ z. omega (arith, z, byte-three, both-bytes, leb-true (attribute r) 1 e)) in
-            rw (sym set, and-false (eqb (recordKind r) 2))
+            let low = leb-true (attribute r) 1 e in
+            let third = first-set (part 3 4 r) (drop 8 r) (λ z. omega (arith, z, byte-three, both-bytes)) in
+            rw (sym third, and-false (eqb (recordKind r) 2))
 
 -- one settings byte more
 pub one-byte :
@@ -163,6 +164,10 @@ not-known u c h = by (anySet u) h
     by true h = refl
     by false h = cc
 
+both-true : (a b : Bool) → (a && b) ≡ true → (a ≡ true) × (b ≡ true)
+both-true true b h = (refl, h)
+both-true false b h = (cc, cc)
+
 pub not-sixteen : (r : List ℕ) → (length r ≡ 16 → ⊥) → callOf r ≡ none
 unfolding callOf
 not-sixteen r n = rw (ne-eqb (length r) 16 n)
@@ -209,10 +214,6 @@ module _ (r : List ℕ) (sixteen : length r ≡ 16) where
       by true e true h = (eqb-true (recordKind r) k e, refl)
       by true e false h = (cc, cc)
       by false e clear h = (cc, cc)
-
-  both-true : (a b : Bool) → (a && b) ≡ true → (a ≡ true) × (b ≡ true)
-  both-true true b h = (refl, h)
-  both-true false b h = (cc, cc)
 
   pub completion-call : (c : Command) → c ≡ commandOf r → isCompletion r ≡ true → callOf r ≡ some (completion c)
   unfolding callOfKind completionOf isCompletion

@@ -69,9 +69,9 @@ kind-below c =
     (either (eqb (c .opcode) 1) (present {x = 1} (omega arith))
     (either ((eqb (c .opcode) 9 || eqb (c .opcode) 8) && c .deallocate) (present {x = 2} (omega arith)) absent))
 
-plain-below : (c : Command) → c .deallocate ≡ false → Below 2 (kindOf c)
+without-below : (c : Command) → c .deallocate ≡ false → Below 2 (kindOf c)
 unfolding kindOf
-plain-below c without =
+without-below c without =
     rw (without, and-false (eqb (c .opcode) 9 || eqb (c .opcode) 8))
     (either (eqb (c .opcode) 2) (present {x = 0} (omega arith))
     (either (eqb (c .opcode) 1) (present {x = 1} (omega arith)) absent))
@@ -101,8 +101,8 @@ pub kind-few : (c : Command) (k : ℕ) → kindOf c ≡ some k → k < 3
 kind-few c k e = inside (rw e at (kind-below c))
 
 -- without the deallocate attribute or bit there are two
-pub kind-plain : (c : Command) (k : ℕ) → c .deallocate ≡ false → kindOf c ≡ some k → k < 2
-kind-plain c k without e = inside (rw e at (plain-below c without))
+pub kind-without : (c : Command) (k : ℕ) → c .deallocate ≡ false → kindOf c ≡ some k → k < 2
+kind-without c k without e = inside (rw e at (without-below c without))
 
 -- a disabled monitor counts nothing
 pub counter-enabled : (s : Settings) (c : Command) (n : ℕ) → counterOf s c ≡ some n → s .enabled ≡ true

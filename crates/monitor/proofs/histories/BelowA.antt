@@ -226,7 +226,7 @@ module _ (past : Past) (w : WindowChoice) (k : ℕ) (few : k < 3) where
         top .1 .1 .1 .1 .0,
       )
 
-  -- of no completion all five are zero
+  -- where no completion is of the kind, all five are zero
   five-zero : ofKind w past k ≡ [] → five w past k ≡ replicate 5 0
   unfolding countOf from ofKind ofKindBelowA
   five-zero empty =

@@ -42,4 +42,11 @@ returns-3 c = rw (below-a-kind _ _ _ (sym (c .before .is-below-a .ensures) ∙ c
 pub counts-below-a-spec : {M : Type 1} → statement M
 counts-below-a-spec =
     tie.close
-    (tie.spec is-below-a-requires kind-requires kind-number-requires counted-below-a-requires returns returns-2 returns-3)
+    (tie.spec
+    is-below-a-requires
+    kind-requires
+    kind-number-requires
+    counted-below-a-requires
+    returns
+    returns-2
+    returns-3)

@@ -5,8 +5,8 @@ use Rattle.monitor.specs.Commands.{kindOf}
 use Rattle.monitor.proofs.commands.Command.kind.Statement.{statement}
 use Rattle.monitor.proofs.commands.Command.kind.Tie as tie
 
-deallocating-requires : tie.Need-deallocating-requires
-deallocating-requires c κs = search needs
+kind-by-attribute-requires : tie.Need-kind-by-attribute-requires
+kind-by-attribute-requires c κs = search needs
 
 returns : tie.Need-returns
 unfolding kindOf
@@ -20,7 +20,7 @@ returns-3 : tie.Need-returns-3
 unfolding kindOf
 returns-3 c =
     let n = c .before .match .rest in
-    rw (ne-eqb _ 2 (n .0 .1), ne-eqb _ 1 (n .1)) (c .deallocating .ensures)
+    rw (ne-eqb _ 2 (n .0 .1), ne-eqb _ 1 (n .1)) (c .kind-by-attribute .ensures)
 
 pub kind-spec : {M : Type 1} → statement M
-kind-spec = tie.close (tie.spec deallocating-requires returns returns-2 returns-3)
+kind-spec = tie.close (tie.spec kind-by-attribute-requires returns returns-2 returns-3)
