@@ -1,4 +1,5 @@
--- The record, the answers and outcomes of the calls, and the answers as numbers, as the walks take them.
+-- The record, what a completion brings, the answers and outcomes of the calls, and the answers as numbers, as the walks
+-- take them.
 use mathlib.Core.Path.{refl}
 use mir.Syntax.{w8}
 use denote.Plain.{UInt}
@@ -8,6 +9,8 @@ use Rattle.monitor.proofs.answers.CompletionAnswer as CN
 use Rattle.monitor.proofs.answers.CompletionAnswer.Laws as CN′
 use Rattle.monitor.proofs.answers.ElapsedAnswer as EN
 use Rattle.monitor.proofs.answers.ElapsedAnswer.Laws as EN′
+use Rattle.monitor.proofs.commands.Command as Cmd
+use Rattle.monitor.proofs.commands.Command.Laws as Cmd′
 use Rattle.monitor.proofs.record.Monitor as Mon
 use Rattle.monitor.proofs.record.Monitor.Laws as Mon′
 use Rattle.monitor.proofs.record.Outcome as O
@@ -31,6 +34,10 @@ use Rattle.latency_monitor.proofs.PlainData.{by-case, Outcome, outcome-
 
 abbrev pub the-record : Plain Mon.the-row
 the-record = plain-struct Mon.the-type Mon′.the-laws Mon′.the-plain Mon′.the-copy
+
+-- what a completion brings
+abbrev pub the-command : Plain Cmd.the-row
+the-command = plain-struct Cmd.the-type Cmd′.the-laws Cmd′.the-plain Cmd′.the-copy
 
 abbrev pub answer : Plain N.the-row
 answer = plain-enum N.the-type N′.the-laws tt N′.the-plain N′.the-copy

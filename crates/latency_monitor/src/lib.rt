@@ -1,7 +1,7 @@
 // The firmware's boundary: the record is lent for each call, in C's calling convention. Each function calls the
 // monitor's rule on the record, stores the record that comes back, and gives the answer as numbers;
-// include/latency_monitor.h declares them. `page`, `settings_back` and the counts below threshold A only read the
-// record; `read_page` has no part in it, and fills the fields of a page that are lent.
+// include/latency_monitor.h declares them. `page`, `settings_back`, `reason` and the counts below threshold A only read
+// the record; `read_page` has no part in it, and fills the fields of a page that are lent.
 mod answers;
 mod reading;
 
@@ -12,6 +12,7 @@ ghost use mathlib.Core.Path.{_≡_};
 ghost use lib.ListN.{length};
 ghost use Rattle.logpage.specs.Reader.{readingOf};
 ghost use Rattle.monitor.specs.Answers.{done};
+ghost use Rattle.monitor.specs.Reasons.{reasonOf};
 ghost use Rattle.monitor.specs.Record.{newMonitor, afterSettings, settingsAnswer, afterCompletion, completionAnswer};
 ghost use Rattle.monitor.specs.Record.{afterElapsed, elapsedAnswer, afterClock, clockAnswer, afterPowerUp};
 ghost use Rattle.monitor.specs.Report.{afterPage, pageAnswer, afterSettingsBack, settingsBackAnswer};
@@ -146,6 +147,15 @@ pub extern "C" fn latency_monitor_static_below_a(m: &Monitor) -> PlainBelowA
     ensures { λ r. ⌜ r ≡ asBelowA (countsBelowA Static (now (m .entry))) ⌝ }
 {
     answers::static_below_a(*m)
+}
+
+// Why a completed command would not load a latency stamp, were it brought to the record now: the lowest reason, 1 to 6, or
+// 0 where it would.
+#[no_mangle]
+pub extern "C" fn latency_monitor_reason(m: &Monitor, c: Command) -> u8
+    ensures { λ r. ⌜ r ≡ reasonOf (now (m .entry)) c ⌝ }
+{
+    Monitor::reason(*m, c)
 }
 
 // A page of 512 bytes read back into its fields.

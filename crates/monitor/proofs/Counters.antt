@@ -12,7 +12,7 @@ use Rattle.logpage.specs.declared.Settings.{Settings}
 use Rattle.monitor.specs.declared.commands.Command.{Command}
 use Rattle.monitor.specs.declared.record.Monitor.{Monitor}
 use Rattle.monitor.specs.Answers.{notCounted}
-use Rattle.monitor.specs.Commands.{kindOf, counterOf, belowAOf, counterNumber, kindNumber}
+use Rattle.monitor.specs.Commands.{kindOf, hasKind, counterOf, belowAOf, counterNumber, kindNumber}
 use Rattle.monitor.specs.Counting.{onceMoreAt, countedBelowA}
 use Rattle.monitor.specs.Record.{withBelowA, afterCompletion, completionAnswer}
 use Rattle.monitor.proofs.commands.Laws.{counter-below, kind-few}
@@ -31,6 +31,14 @@ module _ (s : Settings) (c : Command) (n : ℕ) (number : n ≡ counterNumber (c
       by : (o : Option ℕ) → counterOf s c ≡ o → n ≡ counterNumber o → o ≡ none
       by none is e = refl
       by (some k) is e = absurd (omega (arith, counter-below s c k is))
+
+-- a command of a kind, by the kind's number
+pub is-kind : (c : Command) (k : ℕ) → k ≡ kindNumber (kindOf c) → ltb k 3 ≡ hasKind c
+is-kind c k number = by (kindOf c) refl number
+  where
+    by : (o : Option ℕ) → kindOf c ≡ o → k ≡ kindNumber o → ltb k 3 ≡ hasKind c
+    by none is e = rw (is, e)
+    by (some j) is e = rw (is, e, lt-ltb j 3 (kind-few c j is))
 
 -- the counts below threshold A, by a kind's number
 pub counted-kind :

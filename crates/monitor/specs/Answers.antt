@@ -43,3 +43,12 @@ abbrev pub saysElapsed : ElapsedAnswer → CallAnswer
 saysElapsed (elapsed.Refused n) = refused n
 saysElapsed elapsed.Active = ended false
 saysElapsed elapsed.Ended = ended true
+
+-- 02, Ticket 5: whether an answer says that the stamp was loaded
+abbrev pub loadedIn : CallAnswer → Bool
+loadedIn (refused n) = false
+loadedIn done = false
+loadedIn notCounted = false
+loadedIn (counted n loaded debug) = loaded
+loadedIn (ended b) = false
+loadedIn (byKind counts) = false

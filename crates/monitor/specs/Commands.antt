@@ -1,6 +1,6 @@
 -- A completion: the counter that it counts for, whether it is below threshold A, and its latency in ms.
 use Prim.Native.Nat.{ℕ, zero, suc, _+_, _*_, _/_, min}
-use mathlib.Core.Bool.{Bool, cond, not, _&&_, _||_}
+use mathlib.Core.Bool.{Bool, true, false, cond, not, _&&_, _||_}
 use mathlib.Core.List.{List}
 use mathlib.Core.Option.{Option, none, some}
 use lib.Dec.{eqb, leb}
@@ -34,6 +34,14 @@ kindOf c =
     cond (eqb (c .opcode) 2) (some 0)
     (cond (eqb (c .opcode) 1) (some 1)
     (kindByAttribute (c .opcode) (c .deallocate)))
+
+-- 01, A completion: whether a command is of a kind that counts at all
+abbrev isThere : Option ℕ → Bool
+isThere (some k) = true
+isThere none = false
+
+abbrev pub hasKind : Command → Bool
+hasKind c = isThere (kindOf c)
 
 -- 01, Settings: threshold byte 0 is 5 ms, and each further one 5 ms more. 01, A completion: an equal latency reaches it
 abbrev pub reaches : ℕ → ℕ → Bool

@@ -35,8 +35,14 @@ countedBelowA none counts = counts
 
 -- 01, A completion: what mode largest asks for: more ms than were measured (as many are not enough), and a minimum
 -- window, in units of 100 ms, that is over since the last load
+abbrev pub larger : (latency ms : ℕ) → Bool
+larger latency ms = ltb latency ms
+
+abbrev pub waited : (since minimum : ℕ) → Bool
+waited since minimum = leb (100 * minimum) since
+
 abbrev pub exceeds : (latency since ms minimum : ℕ) → Bool
-exceeds latency since ms minimum = ltb latency ms && leb (100 * minimum) since
+exceeds latency since ms minimum = larger latency ms && waited since minimum
 
 -- 01, A completion: whether the stamp is loaded. An unset one always is, a set one in mode largest alone
 unfoldable pub loads : (stamp latency since ms : ℕ) (largest : Bool) (minimum : ℕ) → Bool

@@ -7,6 +7,7 @@ pub mod Answers
 pub mod Record
 pub mod Report
 pub mod History
+pub mod Reasons
 pub mod Facts
 pub mod Edges
 pub mod Claims

@@ -74,12 +74,14 @@ afterSettings m s = untouchedIf (settingsRefusal s) m (replaced m s)
 unfoldable pub settingsAnswer : List ℕ → CallAnswer
 settingsAnswer s = unlessRefused (settingsRefusal s) done
 
--- whether a completion of so many ms loads counter n's stamp; the time since the last load is the time in the window
--- now, less that at the load
+-- the time since counter n's last load: the time in the window now, less that at the load
+abbrev pub sinceLoad : Monitor → ℕ → ℕ
+sinceLoad m n = inWindow (m .timer) (m .partial) - getD (m .loaded) n 0
+
+-- whether a completion of so many ms loads counter n's stamp
 abbrev pub loadsAt : Monitor → ℕ → ℕ → Bool
 loadsAt m n ms =
-    loads (getD (m .«active_window» .stamps) n 0) (getD (m .«active_window» .latencies) n 0)
-    (inWindow (m .timer) (m .partial) - getD (m .loaded) n 0)
+    loads (getD (m .«active_window» .stamps) n 0) (getD (m .«active_window» .latencies) n 0) (sinceLoad m n)
     ms
     (bit (m .settings .mode) n)
     (m .settings .«minimum_window»)

@@ -2,8 +2,8 @@
 ghost use mathlib.Core.Path.{_≡_};
 ghost use mathlib.Core.Option.{some};
 ghost use Prim.Native.Nat.{_<_};
-ghost use Rattle.monitor.specs.Commands.{kindByAttribute, kindOf, reaches, bucketOf, counterAt, counterOf};
-ghost use Rattle.monitor.specs.Commands.{isBelowA, belowAOf, millisecondsOf, saysKind, saysBucket};
+ghost use Rattle.monitor.specs.Commands.{kindByAttribute, kindOf, hasKind, reaches, bucketOf, counterAt};
+ghost use Rattle.monitor.specs.Commands.{counterOf, isBelowA, belowAOf, millisecondsOf, saysKind, saysBucket};
 ghost use Rattle.monitor.specs.Commands.{counterNumber, kindNumber};
 ghost use Rattle.monitor.specs.Counting.{countedBelowA};
 use crate::counting;
@@ -98,6 +98,13 @@ impl Command {
             1 => Kind::Write,
             _ => kind_by_attribute(opcode, self.deallocate),
         }
+    }
+
+    // Whether the command is of a kind that has counters.
+    pub(crate) fn has_kind(self) -> bool
+        ensures { λ r. ⌜ r ≡ hasKind self ⌝ }
+    {
+        kind_number(self.kind()) < NO_KIND
     }
 
     // The highest bucket whose threshold the latency reaches.

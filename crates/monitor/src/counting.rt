@@ -4,7 +4,8 @@ ghost use mathlib.Core.Path.{_≡_};
 ghost use mathlib.Core.Bool.{cond};
 ghost use Prim.Native.Nat.{_-_, _^_, _<_};
 ghost use lib.Dec.{ltb};
-ghost use Rattle.monitor.specs.Counting.{bit, onceMore, onceMoreAt, exceeds, triggers, debugLog};
+ghost use Rattle.monitor.specs.Counting.{bit, onceMore, onceMoreAt, larger, waited, exceeds};
+ghost use Rattle.monitor.specs.Counting.{triggers, debugLog};
 use logpage::DebugLog;
 use logpage::UNSET;
 
@@ -86,13 +87,26 @@ fn since(loaded: u64, time: u64) -> u64
     if loaded <= time { time - loaded } else { 0 }
 }
 
-// Whether a latency of `ms` loads a stamp that is set, in mode largest: it is larger than the one measured, and at least
-// the minimum window has passed since the last load. `loaded` and `time` are times in the active window.
+// Whether a latency of `ms` is larger than the one measured.
+pub(crate) fn larger(latency: u16, ms: u16) -> bool
+    ensures { λ r. ⌜ r ≡ larger latency ms ⌝ }
+{
+    latency < ms
+}
+
+// Whether at least the minimum window has passed since the last load. `loaded` and `time` are times in the active window.
+pub(crate) fn waited(loaded: u64, time: u64, minimum: u8) -> bool
+    ensures { λ r. ⌜ r ≡ waited (time - loaded) minimum ⌝ }
+{
+    100 * (minimum as u64) <= since(loaded, time)
+}
+
+// Whether a latency of `ms` loads a stamp that is set, in mode largest.
 pub(crate) fn exceeds(latency: u16, loaded: u64, ms: u16, minimum: u8, time: u64) -> bool
     ensures { λ r. ⌜ r ≡ exceeds latency (time - loaded) ms minimum ⌝ }
 {
-    if latency < ms {
-        100 * (minimum as u64) <= since(loaded, time)
+    if larger(latency, ms) {
+        waited(loaded, time, minimum)
     } else {
         false
     }

@@ -2,6 +2,7 @@
 mod answers;
 mod commands;
 mod counting;
+mod reasons;
 mod record;
 mod refusals;
 mod report;

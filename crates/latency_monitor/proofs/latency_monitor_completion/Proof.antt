@@ -2,13 +2,12 @@
 -- `match` on the answer.
 use Rattle.monitor.specs.Answers.{saysCompletion}
 use Rattle.monitor.specs.Record.{afterCompletion, completionAnswer}
-use Rattle.monitor.proofs.commands.Command as X
-use Rattle.monitor.proofs.commands.Command.Laws as X′
-use Rattle.latency_monitor.proofs.PlainData.{Plain, plain-struct, passed}
+use Rattle.latency_monitor.proofs.PlainData.{passed}
 use Rattle.monitor.proofs.record.Monitor.completion.Symbol.{name as #rule}
 use Rattle.monitor.proofs.record.Monitor.completion.Met as rule
 use Rattle.latency_monitor.specs.Answers.{asCompletion}
-use Rattle.latency_monitor.proofs.AnswerTypes.{completion-cases, completion-outcome, plain-completion-answer}
+use Rattle.latency_monitor.proofs.AnswerTypes.{the-command, completion-cases, completion-outcome}
+use Rattle.latency_monitor.proofs.AnswerTypes.{plain-completion-answer}
 use Rattle.latency_monitor.proofs.Parameters.{one}
 use Rattle.latency_monitor.proofs.Walks.{two}
 use Rattle.latency_monitor.proofs.Lent.{lends}
@@ -19,14 +18,11 @@ use Rattle.latency_monitor.proofs.latency_monitor_completion.Key.{name 
 use Rattle.latency_monitor.proofs.latency_monitor_completion.Statement.{statement}
 use Rattle.latency_monitor.proofs.latency_monitor_completion.Code as code
 
-abbrev command : Plain X.the-row
-command = plain-struct X.the-type X′.the-laws X′.the-plain X′.the-copy
-
 pub latency-monitor-completion-spec : {M : Type 1} → statement M
 unfolding code.routine
 latency-monitor-completion-spec 𝓤 H 𝓜 𝓖 𝓡 =
     lends completion-outcome plain-completion-answer saysCompletion asCompletion #rule #numbers
-    completion-cases (one _ (passed command)) (λ _ m a. afterCompletion m (a .0)) (λ _ m a. completionAnswer m (a .0))
+    completion-cases (one _ (passed the-command)) (λ _ m a. afterCompletion m (a .0)) (λ _ m a. completionAnswer m (a .0))
     𝓤 H 𝓜 𝓖 𝓡 code.env #self (code.unfolded 𝓤 H 𝓜 𝓡)
     code.calls-monitor·record·Monitor·completion (rule.met 𝓤 H 𝓜 𝓖 𝓡)
     code.calls-latency-monitor·answers·completion (numbers.met 𝓤 H 𝓜 𝓖 𝓡)

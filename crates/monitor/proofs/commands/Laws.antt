@@ -161,7 +161,7 @@ pub data Becomes (s : Settings) (c : Command) : Type 0 where
   kindless : kindOf c ≡ none → counterOf s c ≡ none → belowAOf s c ≡ none → Becomes s c
   disabled : s .enabled ≡ false → counterOf s c ≡ none → belowAOf s c ≡ none → Becomes s c
 
-at-no-kind : (o : Option ℕ) → counterAt o none ≡ none
+pub at-no-kind : (o : Option ℕ) → counterAt o none ≡ none
 at-no-kind none = refl
 at-no-kind (some b) = refl
 

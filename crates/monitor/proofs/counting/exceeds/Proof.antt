@@ -1,25 +1,19 @@
 -- `exceeds`: a larger latency, and one that is not.
-use native.Mathlib.Omega.{arith}
-use borrow.Author.Tests.{lt-ltb, le-ltb}
 use borrow.Author.Needs.{needs}
 use Rattle.monitor.proofs.counting.exceeds.Statement.{statement}
 use Rattle.monitor.proofs.counting.exceeds.Tie as tie
 
-mul-result : tie.Need-mul-result
-mul-result c = search needs
+larger-requires : tie.Need-larger-requires
+larger-requires c κs = search needs
 
-since-requires : tie.Need-since-requires
-since-requires c κs = search needs
+waited-requires : tie.Need-waited-requires
+waited-requires c κs = search needs
 
 returns : tie.Need-returns
-returns c =
-    let a = c .before .before .args in
-    rw (lt-ltb (a .latency) (a .ms) (omega (arith, c .before .if1 .taken)), c .since .ensures)
+returns c = rw (← c .before .before .larger .ensures, c .before .if1 .taken) (c .waited .ensures)
 
 returns-2 : tie.Need-returns-2
-returns-2 c =
-    let a = c .before .args in
-    rw (le-ltb (a .latency) (a .ms) (omega (arith, c .if1 .left)))
+returns-2 c = rw (← c .before .larger .ensures, c .if1 .left)
 
 pub exceeds-spec : {M : Type 1} → statement M
-exceeds-spec = tie.close (tie.spec mul-result since-requires returns returns-2)
+exceeds-spec = tie.close (tie.spec larger-requires waited-requires returns returns-2)
