@@ -11,7 +11,7 @@ use Rattle.events.specs.Claims.{InParts, LinesInParts}
 use Rattle.events.proofs.files.Laws.{composed, rest-record}
 
 -- the records of a first part are the whole's
-same-record : (s t : List ℕ) (i : ℕ) → 16 * i + 16 ≤ length s → recordAt (s ++ t) i ≡ recordAt s i
+pub same-record : (s t : List ℕ) (i : ℕ) → 16 * i + 16 ≤ length s → recordAt (s ++ t) i ≡ recordAt s i
 same-record s t i h =
     rw (
       drop-append-le (16 * i) s t (omega arith),
@@ -56,6 +56,15 @@ same-lines first s t zero i h = refl
 same-lines first s t (suc n) i h =
     rw (same-record s t i (omega arith), same-lines first s t n (suc i) (omega arith))
 
+-- the records of the second part follow
+pub later-record :
+    (s t : List ℕ) →
+    16 * wholeRecords s ≡ length s →
+    (i : ℕ) →
+    recordAt (s ++ t) (wholeRecords s + i) ≡ recordAt t i
+later-record s t whole i =
+    sym (rest-record (s ++ t) (wholeRecords s) i) ∙ rw (drop-at s t (16 * wholeRecords s) (sym whole))
+
 -- the lines of the second part
 module _ (first : ℕ) (s t : List ℕ) (whole : 16 * wholeRecords s ≡ length s) where
   later-lines :
@@ -64,9 +73,7 @@ module _ (first : ℕ) (s t : List ℕ) (whole : 16 * wholeRecords s ≡ length 
   unfolding linesFrom recordLine
   later-lines zero i = refl
   later-lines (suc n) i =
-      let r : recordAt (s ++ t) (wholeRecords s + i) ≡ recordAt t i =
-      sym (rest-record (s ++ t) (wholeRecords s) i) ∙ rw (drop-at s t (16 * wholeRecords s) (sym whole))
-      in
+      let r = later-record s t whole i in
       let number : first + (wholeRecords s + i) ≡ first + wholeRecords s + i = omega arith in
       let on : suc (wholeRecords s + i) ≡ wholeRecords s + suc i = omega arith in
       rw (r, number, on, later-lines n (suc i))

@@ -1,19 +1,20 @@
 -- What is claimed of files, beyond the contracts: one may be taken in parts, the first of whole records, or be of an
--- earlier release.
+-- earlier release, and what is refused in it is skipped.
 use mathlib.Core.Path.{_≡_}
 use mathlib.Core.Bool.{false}
-use mathlib.Core.List.{List, _++_}
+use mathlib.Core.List.{List, [], _∷_, _++_}
 use mathlib.Core.Option.{some}
 use Prim.Native.Nat.{ℕ, _+_, _%_, _<_}
-use lib.ListN.{length, getD}
+use lib.ListN.{length, getD, take, drop}
 use Rattle.endian.specs.Bytes.{anySet}
 use Rattle.endian.specs.Loads.{number}
 use Rattle.monitor.specs.declared.record.Monitor.{Monitor}
 use Rattle.monitor.specs.Claims.{WithoutAttribute}
-use Rattle.monitor.specs.History.{completion, playFrom}
+use Rattle.monitor.specs.History.{completion, playFrom, found}
 use Rattle.events.specs.Blocks.{refusedLines}
+use Rattle.events.specs.Explain.{numberSaid, explanation, questionOf, partsSaid}
 use Rattle.events.specs.Records.{recordKind, part, unnamed, attribute, callOf, recordAt}
-use Rattle.events.specs.Records.{wholeRecords, historyOf}
+use Rattle.events.specs.Records.{wholeRecords, callsBefore, acceptedBefore, historyOf}
 
 -- what follows is played on the monitor that the first part leaves
 unfoldable pub InParts : Type 0
@@ -46,3 +47,30 @@ EarlierFiles =
     (s : List ℕ) →
     ((i : ℕ) → i < wholeRecords s → recordKind (recordAt s i) ≡ 2 → attribute (recordAt s i) ≡ 0) →
     WithoutAttribute (historyOf s)
+
+-- 02, Ticket 5: an input may be read in parts, the number's bytes and then any parts of the file, all but the last of
+-- whole records. What is said of the number, and else by the first part that says anything, is what is said of the
+-- input, whatever follows
+abbrev pub joined : List (List ℕ) → List ℕ
+joined [] = []
+joined (s ∷ parts) = s ++ joined parts
+
+abbrev pub OfWholeRecords : List (List ℕ) → Type 0
+OfWholeRecords [] = Unit {0}
+OfWholeRecords (s ∷ []) = Unit {0}
+OfWholeRecords (s ∷ t ∷ parts) = (length s % 16 ≡ 0) × OfWholeRecords (t ∷ parts)
+
+unfoldable pub ExplainedInParts : Type 0
+ExplainedInParts =
+    (input : List ℕ) (parts : List (List ℕ)) →
+    joined parts ≡ drop 4 input →
+    OfWholeRecords parts →
+    found (partsSaid (questionOf (take 4 input)) parts) (λ said. said) (numberSaid (length (take 4 input))) ≡
+    explanation input
+
+-- 02, Ticket 5: the monitor that is asked is the one that the accepted records alone make: those that are refused are
+-- skipped
+unfoldable pub RefusedSkipped : Type 0
+RefusedSkipped =
+    (m : Monitor) (s : List ℕ) (n : ℕ) →
+    playFrom m (callsBefore s n) ≡ playFrom m (acceptedBefore s n)

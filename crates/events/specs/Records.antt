@@ -2,7 +2,7 @@
 use mathlib.Core.Bool.{Bool, cond, not, _&&_}
 use mathlib.Core.List.{List, [], _++_}
 use mathlib.Core.Option.{Option, none, some}
-use Prim.Native.Nat.{ℕ, zero, suc, _+_, _-_, _*_, _/_, _%_}
+use Prim.Native.Nat.{ℕ, zero, suc, _-_, _*_, _/_, _%_}
 use lib.Dec.{eqb, leb}
 use lib.ListN.{length, getD, take, drop, replicate}
 use Rattle.endian.specs.Bytes.{anySet}
@@ -98,6 +98,10 @@ saysRecord (answer.Ended e) = ended e
 unfoldable pub afterRecord : Monitor → List ℕ → Monitor
 afterRecord m r = playFrom m (andThen (callOf r) [])
 
+-- the call of a record that nothing turns away
+abbrev pub acceptedCall : List ℕ → Option Call
+acceptedCall r = found (callOf r) (λ refusal. none) (recordRefusal r)
+
 -- record i of a file, from 0
 abbrev pub recordAt : List ℕ → ℕ → List ℕ
 recordAt s i = take 16 (drop (16 * i) s)
@@ -110,6 +114,11 @@ wholeRecords s = length s / 16
 unfoldable pub callsBefore : List ℕ → ℕ → History
 callsBefore s zero = []
 callsBefore s (suc n) = andThen (callOf (recordAt s n)) (callsBefore s n)
+
+-- those of them that nothing turns away
+unfoldable pub acceptedBefore : List ℕ → ℕ → History
+acceptedBefore s zero = []
+acceptedBefore s (suc n) = andThen (acceptedCall (recordAt s n)) (acceptedBefore s n)
 
 -- the calls of a file; bytes left over stand for none
 unfoldable pub historyOf : List ℕ → History

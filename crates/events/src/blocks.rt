@@ -64,7 +64,7 @@ fn replay_lines(m: Monitor, s: &[u8], first: u64, out: &mut [u8]) -> Block
 }
 
 // The first n bytes, or all where there are fewer.
-fn first_bytes(s: &[u8], n: usize) -> &[u8]
+pub(crate) fn first_bytes(s: &[u8], n: usize) -> &[u8]
     ensures { λ r. ⌜ now r ≡ take n (now (s .entry)) ⌝ }
 {
     if n < s.len() { &s[..n] } else { s }

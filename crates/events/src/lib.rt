@@ -1,6 +1,7 @@
 // Event files: records of 16 bytes, the calls that they stand for, and what these make of a monitor.
 mod answers;
 mod blocks;
+mod explain;
 mod files;
 mod records;
 
@@ -10,6 +11,10 @@ pub use answers::apply;
 pub use blocks::Block;
 pub use blocks::end_line;
 pub use blocks::replay_block;
+pub use explain::Explained;
+pub use explain::Explanation;
+pub use explain::Question;
+pub use explain::explained_line;
 pub use files::Halt;
 pub use files::Stop;
 pub use files::left_over;

@@ -1,4 +1,4 @@
--- 01, The page program: the line of what is refused.
+-- 01, The page program: the line of what is refused; and a number alone.
 use mathlib.Core.Bool.{cond}
 use mathlib.Core.List.{List, [], _∷_, _++_}
 use Prim.Native.Nat.{ℕ, zero, suc, _+_, _*_, _/_, _%_}
@@ -33,6 +33,10 @@ refusedWord = 114 ∷ 101 ∷ 102 ∷ 117 ∷ 115 ∷ 101 ∷ 100 ∷ []
 -- the word, the numbers, newline
 unfoldable pub refusedLine : List ℕ → List ℕ
 refusedLine numbers = refusedWord ++ spaced numbers ++ (10 ∷ [])
+
+-- 02, Ticket 5: a number alone, newline
+unfoldable pub numberLine : ℕ → List ℕ
+numberLine n = decimal n ++ (10 ∷ [])
 
 -- the numbers, and the line, stored in a buffer: a number has at most 20 digits behind its space
 abbrev pub NumbersStored : List ℕ → ℕ → (before after : List ℕ) (took : ℕ) → Type 0

@@ -1,10 +1,12 @@
-// What the programs print: refused lines, a page in hex, and a page's counters.
+// What the programs print: refused lines, a number alone, a page in hex, and a page's counters.
 mod lines;
 mod listing;
 mod pages;
 
 pub use lines::Line;
 pub use lines::no_line;
+pub use lines::number_line;
+pub use lines::refused_line;
 pub use lines::refused_record;
 pub use listing::Listing;
 pub use listing::counts_listing;

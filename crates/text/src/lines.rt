@@ -1,11 +1,11 @@
-// Refused lines, as the programs print them (document 01, The page program).
+// Lines, as the programs print them: of what is refused (document 01, The page program), and a number alone.
 ghost use mathlib.Core.Path.{_≡_};
 ghost use mathlib.Core.List.{[], _∷_};
 ghost use Prim.Native.Nat.{_+_, _*_, _≤_};
 ghost use lib.ListN.{length};
 ghost use lib.Seq.{sets};
 ghost use Rattle.text.specs.Lines.{digits, widthWithin, decimal, NumbersStored, LineStored};
-ghost use Rattle.text.specs.Lines.{refusedLine, asLine};
+ghost use Rattle.text.specs.Lines.{refusedLine, numberLine, asLine};
 ghost use Rattle.text.specs.Stored.{Stored};
 
 // The line is the first `len` bytes; the others are zero.
@@ -111,6 +111,30 @@ pub fn refused_record(index: u64, refusal: u64) -> Line
     let mut bytes = [0; 50];
     let len = put_refused(&mut bytes, 0, &[index, refusal]);
     Line { bytes, len }
+}
+
+// The refused line of an input: the refusal alone.
+pub fn refused_line(refusal: u64) -> Line
+    ensures { λ r. ⌜ r ≡ asLine (refusedLine (refusal ∷ [])) ⌝ }
+    ensures { λ r. ⌜ r .len ≤ length (r .bytes) ⌝ }
+{
+    let mut bytes = [0; 50];
+    let len = put_refused(&mut bytes, 0, &[refusal]);
+    Line { bytes, len }
+}
+
+// A number alone on a line.
+pub fn number_line(n: u64) -> Line
+    ensures { λ r. ⌜ r ≡ asLine (numberLine n) ⌝ }
+    ensures { λ r. ⌜ r .len ≤ length (r .bytes) ⌝ }
+{
+    let mut bytes = [0; 50];
+    let width = put_decimal(&mut bytes, 0, n);
+    bytes[width] = b'\n';
+    Line {
+        bytes,
+        len: width + 1,
+    }
 }
 
 // No line at all.

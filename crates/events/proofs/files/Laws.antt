@@ -39,14 +39,14 @@ untouched m r n e = by (callOf r) e
     by (some c) e = untouched-by c m n e
 
 -- one call more, or none
-then-one :
+pub then-one :
     (m : Monitor) (h : History) (o : Option Call) →
     playFrom (playFrom m h) (andThen o []) ≡ playFrom m (andThen o h)
 unfolding playFrom
 then-one m h none = refl
 then-one m h (some c) = refl
 
-then-same :
+pub then-same :
     (a b : Monitor) (h k : History) (o : Option Call) →
     playFrom a h ≡ playFrom b k →
     playFrom a (andThen o h) ≡ playFrom b (andThen o k)

@@ -41,14 +41,20 @@ use Rattle.events.specs.Records.{recordRefusal, recordAnswer, afterRecor
 pub loaded : (l : List ℕ) (n : ℕ) → n ≤ 8 → number (take 8 (take n l)) ≡ number (take n l)
 loaded l n h = rw (take-all 8 (take n l) (omega (arith, length-take n l)))
 
--- four bytes make a number of 32 bits
+-- four bytes make a number of 32 bits, also those behind the first four
+pub four-fit :
+    (l : List ℕ) (n : ℕ) →
+    n ≡ number (take 8 (take 4 l)) →
+    ((k : ℕ) → getD l k 0 < 256) →
+    n < 4294967296
+four-fit l n e bytes = rw (e, loaded l 4 (omega arith)) (below l bytes 4)
+
 pub fits :
     (r : List ℕ) (n : ℕ) →
     n ≡ number (take 8 (take 4 (drop 4 r))) →
     ((k : ℕ) → getD r k 0 < 256) →
     n < 4294967296
-fits r n e bytes =
-    rw (e, loaded (drop 4 r) 4 (omega arith)) (below (drop 4 r) (λ k. rw (getD-drop 4 r k 0) (bytes (4 + k))) 4)
+fits r n e bytes = four-fit (drop 4 r) n e (λ k. rw (getD-drop 4 r k 0) (bytes (4 + k)))
 
 -- both parts are loaded whole, and a number is zero where no byte is set
 module _ (r : List ℕ) (from to rest a : ℕ) where

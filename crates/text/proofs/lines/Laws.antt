@@ -1,4 +1,4 @@
--- Laws of refused lines.
+-- Laws of lines.
 use mathlib.Core.List.{List, [], _∷_, _++_, append-assoc, append-nil}
 use mathlib.Core.Path.{_≡_, refl, sym, _∙_}
 use Prim.Native.Nat.{ℕ, zero, suc, _+_, _-_, _*_, _/_, _%_, _<_, _≤_}
@@ -9,9 +9,10 @@ use lib.ListN.{length, set, take, drop, getD, replicate, length-append, drop-of-
 use lib.Seq.{sets, set-comm, drop-cons, take-suc, take-all}
 use Rattle.endian.proofs.Runs.{sets-append}
 use Rattle.text.specs.declared.lines.Line.{Line}
-use Rattle.text.specs.Lines.{digits, widthWithin, decimal, spaced, refusedWord, refusedLine, asLine}
+use Rattle.text.specs.Lines.{digits, widthWithin, decimal, spaced, refusedWord, refusedLine, numberLine}
+use Rattle.text.specs.Lines.{asLine}
 use Rattle.text.specs.Stored.{Stored}
-use Rattle.text.proofs.Storing.{stored-more, stored-next, stored-within, byte-stored, in-zeros}
+use Rattle.text.proofs.Storing.{same-room, stored-more, stored-next, stored-within, byte-stored, in-zeros}
 
 -- bytes that are copied, from the i-th on: nothing is stored yet; one is stored; nothing is left
 pub text-start : (s text : List ℕ) (at : ℕ) → sets s (at + 0) (drop 0 text) ≡ sets s at text
@@ -166,9 +167,23 @@ line-refused numbers s s₁ s₂ at took e a =
     let word : Stored refusedWord at 7 s s₁ 7 = record { content = e; exact = refl; within = omega arith } in
     stored-within (line-ended _ numbers _ _ _ _ _ _ _ word a) (omega arith) (omega arith)
 
+-- a number and the newline
+pub line-number :
+    (n : ℕ) (s s₁ : List ℕ) (k : ℕ) →
+    Stored (decimal n) 0 20 s s₁ k →
+    Stored (numberLine n) 0 21 s (set s₁ k 10) (k + 1)
+unfolding numberLine
+line-number n s s₁ k a =
+    let behind : k ≡ 0 + k = omega arith in
+    stored-within (stored-more a behind (byte-stored s₁ k 10)) refl (omega arith)
+
+-- a text in the room of a line
 pub as-line :
-    (t bytes : List ℕ) (r : ℕ) →
-    Stored t 0 50 (replicate 50 0) bytes r →
-    _≡_ {A = Line} (record { bytes = bytes; len = r }) (asLine t)
+    (t bytes : List ℕ) (room r : ℕ) →
+    room ≤ 50 →
+    Stored t 0 room (replicate 50 0) bytes r →
+    (_≡_ {A = Line} (record { bytes = bytes; len = r }) (asLine t)) × (r ≤ length bytes)
 unfolding asLine
-as-line t bytes r s = rw (in-zeros 50 t bytes r s, s .exact)
+as-line t bytes room r le s =
+    let size : length bytes ≡ 50 = same-room s in
+    (rw (in-zeros 50 t bytes r (stored-within s refl le), s .exact), omega (arith, s .within))

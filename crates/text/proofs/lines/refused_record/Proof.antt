@@ -1,6 +1,5 @@
 -- `refused_record`: the line is stored in a room of zeros.
 use native.Mathlib.Omega.{arith}
-use Rattle.text.proofs.Storing.{same-room}
 use Rattle.text.proofs.lines.Laws.{as-line}
 use borrow.Author.Needs.{needs}
 use Rattle.text.proofs.lines.refused_record.Statement.{statement}
@@ -18,7 +17,8 @@ put-refused-requires c κs = search needs
 returns : tie.Need-returns
 returns c =
     let line = c .before .put-refused .ensures in
-    (as-line _ _ _ line, (omega (arith, same-room line, line .within), line .within))
+    let in-room = as-line _ _ _ _ (omega arith) line in
+    (in-room .0, (in-room .1, line .within))
 
 pub refused-record-spec : {M : Type 1} → statement M
 refused-record-spec =
