@@ -9,7 +9,8 @@ use crate::history::{Command, Settings, TIMESTAMP_TOP};
 use crate::random::Random;
 use crate::vectors::{Group, ReasonsVector, Vectors};
 
-/// A vector with what is expected, written down by hand: for each question a digit, or '-' for 16.
+/// A vector with what is expected, written down by hand: for each question a digit, or '-' for 16. The tests hold the
+/// reference to it.
 pub struct ByHand {
     pub vector: ReasonsVector,
     pub expected: String,
@@ -248,6 +249,9 @@ fn minimum_window() -> Vec<ByHand> {
         (10, 1_000, '0'),
         (255, 25_499, '6'),
         (255, 25_500, '0'),
+        // More than 16 bits of milliseconds.
+        (1, 65_536, '0'),
+        (255, 131_072, '0'),
         (255, 300_000, '0'),
     ] {
         let load = start(largest(units)).elapsed(50).completion(READ, 7_000);
@@ -265,7 +269,7 @@ fn minimum_window() -> Vec<ByHand> {
 fn elapsed_time() -> Vec<ByHand> {
     let load = || start(largest(1)).timestamp(1 << 40).completion(READ, 7_000);
     let mut cases = Vec::new();
-    // Far ahead, back, by power-up, and held at its top.
+    // Set far ahead, ahead by the minimum window, not moved, and set back.
     for value in [1 << 41, TIMESTAMP_TOP, (1 << 40) + 100, 1 << 40, 0] {
         cases.push(case(load().timestamp(value).completion(READ, 8_000), "--0-6"));
         cases.push(case(load().timestamp(value).elapsed(99).completion(READ, 8_000), "--0--6"));
@@ -273,6 +277,7 @@ fn elapsed_time() -> Vec<ByHand> {
         cases.push(case(load().timestamp(value).elapsed(100).completion(READ, 8_000), "--0--0"));
         cases.push(case(load().elapsed(100).timestamp(value).completion(READ, 8_000), "--0--0"));
     }
+    // Power-up, and a clock that is held at its top.
     for (ms, expected) in [(99, "--0--6"), (100, "--0--0")] {
         cases.push(case(load().elapsed(ms).power_up().completion(READ, 8_000), expected));
         cases.push(case(load().power_up().elapsed(ms).completion(READ, 8_000), expected));

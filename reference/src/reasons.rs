@@ -52,17 +52,21 @@ fn within_minimum_window(asked: &Asked) -> bool {
 
 /// The lowest reason why what completes after a history would not load its stamp, 0 if there is none.
 pub fn reason(before: &[Call], command: Command, latency_us: u32) -> u8 {
-    lowest(before, &all_completions(before), command, latency_us)
+    lowest(&applying(before, &all_completions(before), command, latency_us))
 }
 
-/// The same of a history with these enabled completions.
-fn lowest(before: &[Call], completions: &[Completion], command: Command, latency_us: u32) -> u8 {
+fn lowest(reasons: &[u8]) -> u8 {
+    reasons.iter().copied().min().unwrap_or(0)
+}
+
+/// All reasons of what completes after a history with these enabled completions.
+pub(crate) fn applying(before: &[Call], completions: &[Completion], command: Command, latency_us: u32) -> Vec<u8> {
     let stamped = of_kind(before, command, latency_us).and_then(|this| {
         let in_window = counted(before, completions, this.counter?, number_of(before, Window::Active));
         Some((this, latest_load(before, &in_window)?))
     });
     let asked = Asked { before, command, latency_us, settings: in_force(before), stamped };
-    REASONS.iter().position(|applies| applies(&asked)).map_or(0, |place| place as u8 + 1)
+    (1..).zip(REASONS).filter(|(_, applies)| applies(&asked)).map(|(digit, _)| digit).collect()
 }
 
 /// The reason of each call that is a completion, none of the others. What a completion is goes by what is before it, so
@@ -76,7 +80,7 @@ pub fn reasons(history: &[Call]) -> Vec<Option<u8>> {
 fn at(history: &[Call], completions: &[Completion], place: usize) -> Option<u8> {
     let Call::Completion { command, latency_us } = history[place] else { return None };
     let before = completions.partition_point(|c| c.place < place);
-    Some(lowest(&history[..place], &completions[..before], command, latency_us))
+    Some(lowest(&applying(&history[..place], &completions[..before], command, latency_us)))
 }
 
 /// An event file, read once for any number of questions.

@@ -1,6 +1,6 @@
 use crate::answers::{answer, answers, Answer};
 use crate::events::{printed, read, record_answers, Events, Preset, Refused};
-use crate::facts::{facts, in_force, Facts, BELOW_A};
+use crate::facts::{all_completions, facts, in_force, Facts, BELOW_A};
 use crate::groups::{
     each_kind, example, groups, random_mixture, BELOW, DATASET_MANAGEMENT, DEALLOCATE, READ, WRITE_ZEROES,
     WRITE_ZEROES_DEAC,
@@ -11,7 +11,7 @@ use crate::pages;
 use crate::questions::{self, close_mixture};
 use crate::random::Random;
 use crate::reading::{listing, read_page, zero_places};
-use crate::reasons::{explained, reason, reasons, EventFile};
+use crate::reasons::{applying, explained, reason, reasons, EventFile};
 use crate::vectors::{self, Group, ReasonsVector, Vectors, LONGEST_FILE, MOST_QUESTIONS};
 
 /// The commands that count, each as its opcode, its attribute or bit, and its kind.
@@ -628,6 +628,39 @@ fn inputs_of_explain() {
                 assert_eq!(digit(&explained(&[number, file].concat())), expected);
             }
         }
+    }
+}
+
+/// All reasons that apply, each by itself: 4 to 6 need a stamp that is set, and 5 and 6 mode largest.
+#[test]
+fn reasons_that_apply() {
+    let first = Settings { minimum_window: 255, ..base() };
+    let largest = Settings { mode: 0x0FFF, ..first };
+    let new = Events::default;
+    let set = |settings: Settings| new().settings(settings).completion(READ, 7_000);
+    let disabled = |settings: Settings| set(settings).settings(Settings { enable: 0, ..settings });
+    let cases: [(Events, Command, u32, &[u8]); 16] = [
+        (new(), READ, 5_000, &[1]),
+        (new(), WRITE_ZEROES, 5_000, &[1, 2]),
+        (new(), WRITE_ZEROES, BELOW, &[1, 2, 3]),
+        (new().settings(base()), WRITE_ZEROES, BELOW, &[2, 3]),
+        (set(first), READ, BELOW, &[3]),
+        (set(first), READ, 6_000, &[4]),
+        (set(first), READ, 8_000, &[4]),
+        (set(first), DEALLOCATE, 6_000, &[]),
+        (set(largest), READ, BELOW, &[3]),
+        (set(largest), READ, 7_999, &[5, 6]),
+        (set(largest), READ, 8_000, &[6]),
+        (set(largest), READ, 50_000, &[]),
+        (set(largest).elapsed(25_500), READ, 7_999, &[5]),
+        (set(largest).elapsed(25_500), READ, 8_000, &[]),
+        (disabled(first), READ, 7_000, &[1, 4]),
+        (disabled(largest), READ, 7_000, &[1, 5, 6]),
+    ];
+    for (n, (file, command, us, expected)) in cases.into_iter().enumerate() {
+        let (before, _) = read(&file.0, &[]);
+        assert_eq!(applying(&before, &all_completions(&before), command, us), expected, "case {n}");
+        assert_eq!(reason(&before, command, us), expected.first().copied().unwrap_or(0));
     }
 }
 

@@ -44,8 +44,8 @@
 //! A reasons vector is
 //! - the length of an event file (u32, at most 131,072) and its bytes, also 1 to 15 after the last whole record;
 //! - the number of questions (u16, at most 3,000), and 17 bytes for each, by the place in them:
-//!   - 0: how many bytes of the record number are there, 0 to 4. With fewer than 4 the input of `explain` ends there, and
-//!     has nothing of the event file;
+//!   - 0: how many bytes of the record number are there, 0 to 4. With fewer than 4 the input of `explain` ends there,
+//!     and has nothing of the event file;
 //!   - 1-4: these bytes, and zeros after them;
 //!   - 5: the length of what `explain` prints, 2 or 11;
 //!   - 6-16: its bytes, and zeros after them.
