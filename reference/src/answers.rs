@@ -1,7 +1,7 @@
 //! What the calls of a history answer, asked of the history itself.
 
 use crate::facts::{
-    all_completions, below_a, first_trigger, is_in, latest_load, number_of, window_number, BelowA, Completion,
+    all_completions, below_a, counted, first_trigger, latest_load, number_of, window_number, BelowA, Completion,
 };
 use crate::history::{refusal, Call};
 
@@ -55,8 +55,7 @@ fn completion(history: &[Call], completions: &[Completion]) -> Answer {
     let this = completions.last().filter(|c| c.place == place);
     let Some(counter) = this.and_then(|c| c.counter) else { return Answer::NotCounted };
     let number = window_number(history, place);
-    let alike = |c: &&Completion| c.counter == Some(counter) && is_in(history, c.place, number);
-    let in_window: Vec<&Completion> = completions.iter().filter(alike).collect();
+    let in_window = counted(history, completions, counter, number);
     Answer::Counted {
         counter,
         loaded: latest_load(history, &in_window).is_some_and(|c| c.place == place),

@@ -32,7 +32,7 @@ pub fn unnamed(kind: u8) -> Option<Vec<usize>> {
 }
 
 /// The call that a record stands for, none if it is turned away by 11.
-fn call(record: &[u8]) -> Option<Call> {
+pub(crate) fn call(record: &[u8]) -> Option<Call> {
     if unnamed(record[0])?.iter().any(|&place| record[place] != 0) {
         return None;
     }

@@ -22,7 +22,7 @@ pub struct Event {
 /// What stands in an event's place where there is none.
 pub(crate) const NO_EVENT: Event = Event { measured_latency: 0, stamp: NO_STAMP, stamp_unit: false };
 
-/// An enabled completion of a kind.
+/// A completion of a kind.
 #[derive(Clone, Copy, Debug)]
 pub(crate) struct Completion {
     pub(crate) place: usize,
@@ -35,8 +35,18 @@ pub(crate) struct Completion {
 }
 
 impl Completion {
-    fn largest(&self) -> bool {
+    pub(crate) fn largest(&self) -> bool {
         self.counter.is_some_and(|counter| bit(self.settings.mode, counter))
+    }
+
+    /// Whether it shows more than a load before it.
+    pub(crate) fn larger(&self, load: &Completion) -> bool {
+        self.measured_latency > load.measured_latency
+    }
+
+    /// Whether it is at least the minimum window after a load, by elapsed time.
+    pub(crate) fn after_minimum_window(&self, history: &[Call], load: &Completion) -> bool {
+        time(&history[load.place..self.place]) >= 100 * u64::from(self.settings.minimum_window)
     }
 
     fn triggers(&self) -> bool {
@@ -148,7 +158,7 @@ fn timer(history: &[Call]) -> u16 {
 }
 
 /// The kind that a command counts as. Dataset Management and Write Zeroes must deallocate.
-fn kind(command: Command) -> Option<usize> {
+pub(crate) fn kind(command: Command) -> Option<usize> {
     match (command.opcode, command.deallocate) {
         (0x02, _) => Some(0),
         (0x01, _) => Some(1),
@@ -158,7 +168,7 @@ fn kind(command: Command) -> Option<usize> {
 }
 
 /// The highest bucket whose threshold a latency reaches.
-fn bucket(thresholds: [u8; 4], latency_us: u32) -> Option<usize> {
+pub(crate) fn bucket(thresholds: [u8; 4], latency_us: u32) -> Option<usize> {
     (0..4).rev().find(|&b| u64::from(latency_us) >= 5_000 * (u64::from(thresholds[b]) + 1))
 }
 
@@ -174,13 +184,15 @@ pub(crate) fn all_completions(history: &[Call]) -> Vec<Completion> {
 /// The call at a place as an enabled completion of a kind, if it is one.
 fn completion(history: &[Call], place: usize) -> Option<Completion> {
     let Call::Completion { command, latency_us } = history[place] else { return None };
-    let settings = in_force(&history[..place]);
-    if !settings.enabled() {
-        return None;
-    }
+    of_kind(&history[..place], command, latency_us).filter(|c| c.settings.enabled())
+}
+
+/// What completes after a history as a completion of a kind, if it has one, by the settings in force there.
+pub(crate) fn of_kind(before: &[Call], command: Command, latency_us: u32) -> Option<Completion> {
     let kind = kind(command)?;
+    let settings = in_force(before);
     Some(Completion {
-        place,
+        place: before.len(),
         kind,
         counter: bucket(settings.thresholds, latency_us).map(|bucket| 3 * bucket + kind),
         measured_latency: u16::try_from(latency_us / 1_000).unwrap_or(u16::MAX),
@@ -202,10 +214,19 @@ pub(crate) fn is_in(history: &[Call], place: usize, number: Option<u64>) -> bool
     number.is_some() && window_number(history, place) == number
 }
 
+/// The completions that a counter counts in the window with this number.
+pub(crate) fn counted<'a>(
+    history: &[Call],
+    completions: &'a [Completion],
+    counter: usize,
+    number: Option<u64>,
+) -> Vec<&'a Completion> {
+    completions.iter().filter(|c| c.counter == Some(counter) && is_in(history, c.place, number)).collect()
+}
+
 /// One counter of the window with this number.
 fn counter_facts(history: &[Call], completions: &[Completion], counter: usize, number: Option<u64>) -> CounterFacts {
-    let counted = |c: &&Completion| c.counter == Some(counter) && is_in(history, c.place, number);
-    let counted: Vec<&Completion> = completions.iter().filter(counted).collect();
+    let counted = counted(history, completions, counter, number);
     CounterFacts {
         count: count(history, &counted, counter, number),
         latest_load: latest_load(history, &counted).map(|c| c.event(history)),
@@ -242,11 +263,7 @@ pub(crate) fn latest_load<'a>(history: &[Call], completions: &[&'a Completion]) 
 fn loads(history: &[Call], completion: &Completion, last_load: Option<&Completion>) -> bool {
     match last_load {
         None => true,
-        Some(load) => {
-            completion.largest()
-                && completion.measured_latency > load.measured_latency
-                && time(&history[load.place..completion.place]) >= 100 * u64::from(completion.settings.minimum_window)
-        }
+        Some(load) => completion.largest() && completion.larger(load) && completion.after_minimum_window(history, load),
     }
 }
 

@@ -5,6 +5,7 @@ use crate::deallocate;
 use crate::events::{unnamed, Events, Preset, RECORD};
 use crate::history::{Command, Settings, TIMESTAMP_TOP};
 use crate::pages;
+use crate::questions;
 use crate::random::Random;
 use crate::vectors::{EventVector, Group, SettingsVector, Vectors};
 
@@ -21,7 +22,7 @@ pub(crate) const LARGEST: u16 = 0x0FFF;
 /// A latency just below A, with thresholds 0, 1, 3, 9.
 pub(crate) const BELOW: u32 = 4_999;
 /// The records that the page program reads at a time.
-const BLOCK: usize = 4_096;
+pub(crate) const BLOCK: usize = 4_096;
 
 pub fn groups() -> Vec<Group> {
     let mut groups = vec![
@@ -39,16 +40,19 @@ pub fn groups() -> Vec<Group> {
         events("refusals", refusals()),
         events("beyond one block", beyond_one_block()),
         events("random mixtures", random_mixtures(&mut Random::new(4))),
-        events("damaged", damaged(&mut Random::new(5))),
+        events("damaged", all_damaged(&mut Random::new(5))),
         event_vectors("counters at their top", counters_at_their_top()),
         event_vectors("below threshold a", below_a::vectors()),
         events("deallocate attribute", deallocate::files()),
+    ];
+    groups.extend(questions::groups());
+    groups.extend([
         event_vectors("page buffers", page_buffers()),
         event_vectors("back buffers", back_buffers()),
         settings("settings lengths", settings_lengths()),
         settings("settings bytes", settings_bytes()),
         settings("settings fields", settings_fields()),
-    ];
+    ]);
     groups.extend(pages::groups());
     groups
 }
@@ -648,7 +652,7 @@ fn refusals() -> Vec<Events> {
 }
 
 /// A file, filled with one record up to record number `to`.
-fn filled(file: Events, filler: Events, to: usize) -> Events {
+pub(crate) fn filled(file: Events, filler: Events, to: usize) -> Events {
     let more = to - file.0.len() / RECORD;
     file.raw(&filler.0.repeat(more))
 }
@@ -788,39 +792,40 @@ fn random_mixtures(random: &mut Random) -> Vec<Events> {
     files
 }
 
-fn damaged(random: &mut Random) -> Vec<Events> {
-    let mut files = Vec::new();
-    for _ in 0..80 {
-        let records = random.from(5, 60);
-        let mut file = random_mixture(random, records);
-        for _ in 0..random.from(1, 8) {
-            let place = random.below(file.0.len() as u64) as usize;
-            file.0[place] = match random.below(3) {
-                0 => file.0[place] ^ 1 << random.below(8),
-                1 => random.below(6) as u8,
-                _ => random.bits() as u8,
-            };
-        }
-        match random.below(6) {
-            // A byte too few somewhere moves all that follows.
-            0 => {
-                let place = random.below(file.0.len() as u64) as usize;
-                file.0.remove(place);
-            }
-            // A byte too many, and a file that breaks off.
-            1 => {
-                let place = random.below(file.0.len() as u64) as usize;
-                file.0.insert(place, random.bits() as u8);
-            }
-            2 => {
-                let length = random.below(file.0.len() as u64) as usize;
-                file.0.truncate(length);
-            }
-            _ => {}
-        }
-        files.push(file);
+/// A random file with some bytes changed, and now and then of another length.
+pub(crate) fn damaged(random: &mut Random) -> Events {
+    let records = random.from(5, 60);
+    let mut file = random_mixture(random, records);
+    for _ in 0..random.from(1, 8) {
+        let place = random.below(file.0.len() as u64) as usize;
+        file.0[place] = match random.below(3) {
+            0 => file.0[place] ^ 1 << random.below(8),
+            1 => random.below(6) as u8,
+            _ => random.bits() as u8,
+        };
     }
-    files
+    match random.below(6) {
+        // A byte too few somewhere moves all that follows.
+        0 => {
+            let place = random.below(file.0.len() as u64) as usize;
+            file.0.remove(place);
+        }
+        // A byte too many, and a file that breaks off.
+        1 => {
+            let place = random.below(file.0.len() as u64) as usize;
+            file.0.insert(place, random.bits() as u8);
+        }
+        2 => {
+            let length = random.below(file.0.len() as u64) as usize;
+            file.0.truncate(length);
+        }
+        _ => {}
+    }
+    file
+}
+
+fn all_damaged(random: &mut Random) -> Vec<Events> {
+    (0..80).map(|_| damaged(random)).collect()
 }
 
 fn counters_at_their_top() -> Vec<EventVector> {

@@ -10,8 +10,10 @@ pub mod history;
 pub mod mixed;
 pub mod page;
 pub mod pages;
+pub mod questions;
 pub mod random;
 pub mod reading;
+pub mod reasons;
 #[cfg(test)]
 mod tests;
 pub mod vectors;

@@ -4,6 +4,7 @@
 //!     reference check < FILE           its groups, one a line, after reading it by the format
 //!     reference page < EVENTS          what the page program prints
 //!     reference listing < PAGE         what the listing prints
+//!     reference explain < INPUT        what `explain` prints; the input is a record number and an event file
 //!     reference sample > EVENTS        the scope paper's example
 //!     reference mixed BYTES > EVENTS   a long event file for measurements
 //!     reference files FOLDER           each vector's event file, with what the page program prints for it
@@ -13,7 +14,7 @@ use std::io::{self, BufWriter, Read, Write};
 use std::process::ExitCode;
 
 use reference::vectors::Vectors;
-use reference::{events, groups, mixed, reading, vectors};
+use reference::{events, groups, mixed, reading, reasons, vectors};
 
 fn main() -> ExitCode {
     let words: Vec<String> = std::env::args().skip(1).collect();
@@ -37,10 +38,13 @@ fn run(words: &[&str]) -> io::Result<()> {
         }
         ["page"] => out.write_all(events::printed(&input()?).as_bytes())?,
         ["listing"] => out.write_all(reading::listing(&input()?).as_bytes())?,
+        ["explain"] => out.write_all(reasons::explained(&input()?).as_bytes())?,
         ["sample"] => out.write_all(&groups::example().0)?,
         ["mixed", bytes] => mixed::write(bytes.parse().map_err(io::Error::other)?, &mut out)?,
         ["files", folder] => files(folder)?,
-        _ => return Err(io::Error::other("vectors, check, page, listing, sample, mixed BYTES or files FOLDER")),
+        _ => {
+            return Err(io::Error::other("vectors, check, page, listing, explain, sample, mixed BYTES or files FOLDER"))
+        }
     }
     out.flush()
 }

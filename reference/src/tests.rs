@@ -1,6 +1,6 @@
 use crate::answers::{answer, answers, Answer};
 use crate::events::{printed, read, record_answers, Events, Preset, Refused};
-use crate::facts::{facts, in_force, Facts, BELOW_A};
+use crate::facts::{all_completions, facts, in_force, Facts, BELOW_A};
 use crate::groups::{
     each_kind, example, groups, random_mixture, BELOW, DATASET_MANAGEMENT, DEALLOCATE, READ, WRITE_ZEROES,
     WRITE_ZEROES_DEAC,
@@ -8,9 +8,11 @@ use crate::groups::{
 use crate::history::{accepted_elapsed, accepted_settings, refusal, Call, Command, Settings, Window, INCREMENT_MS};
 use crate::page::{page, page_bytes, settings_back};
 use crate::pages;
+use crate::questions::{self, close_mixture};
 use crate::random::Random;
 use crate::reading::{listing, read_page, zero_places};
-use crate::vectors::{self, Vectors};
+use crate::reasons::{applying, explained, reason, reasons, EventFile};
+use crate::vectors::{self, Group, ReasonsVector, Vectors, LONGEST_FILE, MOST_QUESTIONS};
 
 /// The commands that count, each as its opcode, its attribute or bit, and its kind.
 const COUNTED: [(u8, bool, usize); 6] =
@@ -587,6 +589,253 @@ fn listings() {
     assert_eq!(listing(&page), expected.replace("\n4 0 0\n", "\n4 0 4294967295\n"));
 }
 
+/// What is printed for a record number and a file, as a digit, or '-' for 16.
+fn digit(printed: &str) -> char {
+    match printed.as_bytes() {
+        [digit @ b'0'..=b'6', b'\n'] => char::from(*digit),
+        b"refused 16\n" => '-',
+        _ => panic!("printed: {printed}"),
+    }
+}
+
+/// The answers to a vector's questions.
+fn digits(vector: &ReasonsVector) -> String {
+    let file = EventFile::new(&vector.file);
+    vector.numbers.iter().map(|number| digit(&file.printed(number))).collect()
+}
+
+/// The answers of the vectors are those written down by hand.
+#[test]
+fn reasons_by_hand() {
+    for (name, cases) in questions::by_hand() {
+        for (n, case) in cases.iter().enumerate() {
+            assert_eq!(digits(&case.vector), case.expected, "{name}, vector {n}");
+        }
+    }
+}
+
+/// The program's whole input: a number's bytes, and after all four of them an event file.
+#[test]
+fn inputs_of_explain() {
+    assert_eq!(explained(&[&[2, 0, 0, 0], &example().0[..]].concat()), "0\n");
+    assert_eq!(explained(&[&[1, 0, 0, 0], &example().0[..]].concat()), "refused 16\n");
+    assert_eq!(explained(&[&[0, 0, 0, 2], &example().0[..]].concat()), "refused 16\n");
+    let small = |vector: &ReasonsVector| vector.file.len() < 1_000;
+    for (_, cases) in questions::by_hand() {
+        for case in cases.iter().filter(|case| small(&case.vector)) {
+            for (number, expected) in case.vector.numbers.iter().zip(case.expected.chars()) {
+                let file = if number.len() == 4 { &case.vector.file[..] } else { &[] };
+                assert_eq!(digit(&explained(&[number, file].concat())), expected);
+            }
+        }
+    }
+}
+
+/// All reasons that apply, each by itself: 4 to 6 need a stamp that is set, and 5 and 6 mode largest.
+#[test]
+fn reasons_that_apply() {
+    let first = Settings { minimum_window: 255, ..base() };
+    let largest = Settings { mode: 0x0FFF, ..first };
+    let new = Events::default;
+    let set = |settings: Settings| new().settings(settings).completion(READ, 7_000);
+    let disabled = |settings: Settings| set(settings).settings(Settings { enable: 0, ..settings });
+    let cases: [(Events, Command, u32, &[u8]); 16] = [
+        (new(), READ, 5_000, &[1]),
+        (new(), WRITE_ZEROES, 5_000, &[1, 2]),
+        (new(), WRITE_ZEROES, BELOW, &[1, 2, 3]),
+        (new().settings(base()), WRITE_ZEROES, BELOW, &[2, 3]),
+        (set(first), READ, BELOW, &[3]),
+        (set(first), READ, 6_000, &[4]),
+        (set(first), READ, 8_000, &[4]),
+        (set(first), DEALLOCATE, 6_000, &[]),
+        (set(largest), READ, BELOW, &[3]),
+        (set(largest), READ, 7_999, &[5, 6]),
+        (set(largest), READ, 8_000, &[6]),
+        (set(largest), READ, 50_000, &[]),
+        (set(largest).elapsed(25_500), READ, 7_999, &[5]),
+        (set(largest).elapsed(25_500), READ, 8_000, &[]),
+        (disabled(first), READ, 7_000, &[1, 4]),
+        (disabled(largest), READ, 7_000, &[1, 5, 6]),
+    ];
+    for (n, (file, command, us, expected)) in cases.into_iter().enumerate() {
+        let (before, _) = read(&file.0, &[]);
+        assert_eq!(applying(&before, &all_completions(&before), command, us), expected, "case {n}");
+        assert_eq!(reason(&before, command, us), expected.first().copied().unwrap_or(0));
+    }
+}
+
+/// Random histories, those with times close to the minimum window among them.
+fn histories_to_ask(seed: u64) -> Vec<Vec<Call>> {
+    let mut random = Random::new(seed);
+    let mut histories = random_histories(seed);
+    histories.extend((0..300).map(|_| read(&close_mixture(&mut random).0, &[]).0));
+    histories
+}
+
+/// The reason is 0 exactly when the completion's answer says that the stamp is loaded, and 1 to 3 exactly when it says
+/// that it is not counted. It is asked of the history before, whatever follows.
+#[test]
+fn reasons_and_answers() {
+    let mut given = [0; 7];
+    for history in histories_to_ask(26) {
+        let answers = answers(&history);
+        for (place, asked) in reasons(&history).into_iter().enumerate() {
+            let Call::Completion { command, latency_us } = history[place] else {
+                assert_eq!(asked, None);
+                continue;
+            };
+            let reason = reason(&history[..place], command, latency_us);
+            assert_eq!(asked, Some(reason));
+            assert_eq!(reason == 0, matches!(answers[place], Answer::Counted { loaded: true, .. }));
+            assert_eq!(matches!(reason, 1..=3), answers[place] == Answer::NotCounted);
+            given[usize::from(reason)] += 1;
+        }
+    }
+    assert!(given.iter().all(|&times| times > 500), "{given:?}");
+}
+
+/// A counter's stamp as one that keeps a record would have it: the measured latency, and the time since the load.
+type Stamp = Option<(u32, u64)>;
+
+/// The reason of a completion, by the settings in force and the stamps.
+fn reason_by_record(settings: Settings, stamps: &[Stamp; 12], command: Command, us: u32) -> (u8, Option<usize>) {
+    let reached = settings.thresholds.iter().filter(|&&v| us / 5_000 > u32::from(v)).count();
+    if !settings.enabled() {
+        return (1, None);
+    }
+    let Some(kind) = kind(command) else { return (2, None) };
+    let Some(bucket) = reached.checked_sub(1) else { return (3, None) };
+    let counter = 3 * bucket + kind;
+    let reason = match (stamps[counter], settings.mode >> counter & 1) {
+        (None, _) => 0,
+        (Some(_), 0) => 4,
+        (Some((ms, _)), _) if (us / 1_000).min(65_535) <= ms => 5,
+        (Some((_, since)), _) if since < 100 * u64::from(settings.minimum_window) => 6,
+        _ => 0,
+    };
+    (reason, Some(counter))
+}
+
+/// The reasons, call by call, from a record that is kept.
+fn reasons_by_record(history: &[Call]) -> Vec<Option<u8>> {
+    let (mut settings, mut stamps, mut time) = (Settings::default(), [None; 12], 0);
+    let mut asked = |call: &Call| {
+        if let Some(accepted) = accepted_settings(call) {
+            settings = accepted;
+            (stamps, time) = if settings.enabled() { ([None; 12], 0) } else { (stamps, time) };
+        }
+        let elapsed = accepted_elapsed(call);
+        stamps.iter_mut().flatten().for_each(|(_, since)| *since += elapsed);
+        if settings.enabled() && time + elapsed >= INCREMENT_MS * u64::from(settings.timer_threshold) {
+            (stamps, time) = ([None; 12], time + elapsed - INCREMENT_MS * u64::from(settings.timer_threshold));
+        } else if settings.enabled() {
+            time += elapsed;
+        }
+        let Call::Completion { command, latency_us } = *call else { return None };
+        let (reason, counter) = reason_by_record(settings, &stamps, command, latency_us);
+        if let (0, Some(counter)) = (reason, counter) {
+            stamps[counter] = Some(((latency_us / 1_000).min(65_535), 0));
+        }
+        Some(reason)
+    };
+    history.iter().map(&mut asked).collect()
+}
+
+#[test]
+fn reasons_from_a_record() {
+    for history in histories_to_ask(27) {
+        assert_eq!(reasons(&history), reasons_by_record(&history));
+    }
+}
+
+/// What comes after a record has no part in its answer, and without the record there is none.
+#[test]
+fn reasons_of_cut_files() {
+    let mut random = Random::new(28);
+    for _ in 0..60 {
+        let Events(file) = close_mixture(&mut random).raw(&[2; 9]);
+        let whole = EventFile::new(&file);
+        for n in 0..file.len() / 16 {
+            let number = (n as u32).to_le_bytes();
+            let cut = |end: usize| EventFile::new(&file[..end]).printed(&number);
+            assert_eq!(cut(16 * n + 16), whole.printed(&number));
+            assert_eq!(cut(16 * n + 15), "refused 16\n");
+        }
+    }
+}
+
+/// Refused records change no answer but for the numbers of those after them.
+#[test]
+fn reasons_without_refused_records() {
+    let mut random = Random::new(29);
+    let mut refused_in_all = 0;
+    for _ in 0..100 {
+        let file = random_mixture(&mut random, 80).0;
+        let refused: Vec<u32> = read(&file, &[]).1.iter().map(|refused| refused.record).collect();
+        let others: Vec<usize> = (0..file.len() / 16).filter(|&n| !refused.contains(&(n as u32))).collect();
+        let kept: Vec<u8> = others.iter().flat_map(|&n| &file[16 * n..16 * n + 16]).copied().collect();
+        let (whole, without) = (EventFile::new(&file), EventFile::new(&kept));
+        for (place, &n) in others.iter().enumerate() {
+            let [old, new] = [n, place].map(|number| (number as u32).to_le_bytes());
+            assert_eq!(whole.printed(&old), without.printed(&new));
+        }
+        refused_in_all += refused.len();
+    }
+    assert!(refused_in_all > 100);
+}
+
+/// Every answer comes often, among the random vectors too, and the vectors keep within their bounds.
+#[test]
+fn groups_of_reasons() {
+    let groups = questions::groups();
+    let mut all = String::new();
+    for Group { name, vectors } in &groups {
+        let Vectors::Reasons(vectors) = vectors else { panic!("not of reasons") };
+        assert!(name.starts_with("reasons"));
+        assert!(vectors.iter().all(|v| v.file.len() <= LONGEST_FILE && v.numbers.len() <= MOST_QUESTIONS.into()));
+        let answers: String = vectors.iter().map(digits).collect();
+        let often = |digit: char| answers.matches(digit).count() >= 20;
+        assert!(*name != "reasons of random mixtures" || "0123456-".chars().all(often));
+        all += &answers;
+    }
+    assert!("0123456-".chars().all(|digit| all.matches(digit).count() >= 100));
+    assert!(vectors::write(&groups).len() < 700_000);
+}
+
+/// Every digit on both sides of a block's end.
+#[test]
+fn reasons_beyond_one_block() {
+    let (_, cases) = questions::by_hand().into_iter().find(|(name, _)| *name == "reasons beyond one block").unwrap();
+    let numbers = |digit: char| -> Vec<u32> {
+        let asked = cases.iter().flat_map(|case| case.vector.numbers.iter().zip(case.expected.chars()));
+        let given = asked.filter(|&(_, expected)| expected == digit);
+        given.map(|(number, _)| u32::from_le_bytes(number[..].try_into().unwrap())).collect()
+    };
+    for digit in "0123456-".chars() {
+        let numbers = numbers(digit);
+        assert!(numbers.iter().any(|number| (4_093..4_096).contains(number)), "{digit} before the end");
+        assert!(numbers.iter().any(|number| (4_096..4_100).contains(number)), "{digit} behind it");
+    }
+}
+
+/// A reasons vector with another byte is not in the format: the number's length and padding, and what is printed.
+#[test]
+fn reasons_in_the_format() {
+    let Events(file) = example();
+    let numbers = vec![vec![2, 0, 0, 0], vec![2, 0, 0]];
+    let vectors = Vectors::Reasons(vec![ReasonsVector { file, numbers }]);
+    let file = vectors::write(&[Group { name: "reasons", vectors }]);
+    assert_eq!(vectors::check(&file), Ok("reasons 1\n".into()));
+    let questions = file.len() - 1 - 2 * 17;
+    assert_eq!(file[questions..][..17], *b"\x04\x02\0\0\0\x020\n\0\0\0\0\0\0\0\0\0");
+    assert_eq!(file[questions + 17..][..17], *b"\x03\x02\0\0\0\x0Brefused 16\n");
+    for (place, byte) in [(0, 3), (0, 5), (1, 3), (4, 1), (5, 1), (6, b'7'), (8, 1), (17, 4 + 1), (21, 1), (23, b'R')] {
+        let mut wrong = file.clone();
+        wrong[questions + place] = byte;
+        assert!(vectors::check(&wrong).is_err(), "byte {place}");
+    }
+}
+
 /// How many pages of each group are accepted, and how many are refused by 13, by 14 and by 15.
 #[test]
 fn groups_of_pages() {
@@ -615,7 +864,7 @@ fn groups_of_pages() {
 #[test]
 fn vectors_are_in_the_format() {
     let file = vectors::write(&groups());
-    assert!(file.len() < 3_000_000);
+    assert!(file.len() < 3_700_000);
     assert!(vectors::check(&file).is_ok());
     assert!(vectors::check(&file[..file.len() - 1]).is_err());
     // The end of the last listing.

@@ -3,7 +3,7 @@
 //! Numbers of several bytes have the lowest byte first. The file is a sequence of groups and then a byte 'E'. A group is
 //! - a byte 'G', a byte with the length of its name, the name (lower case words), and the number of its vectors (u32);
 //! - its vectors. In a group whose name starts with "settings" they are settings vectors, in one whose name starts with
-//!   "pages" page vectors, else event vectors.
+//!   "pages" page vectors, in one whose name starts with "reasons" reasons vectors, else event vectors.
 //!
 //! An event vector, played on a new monitor, is
 //! - the length of an event file (u32, at most 131,072) and its bytes, also 1 to 15 after the last whole record;
@@ -40,6 +40,15 @@
 //!   - the debug log's stamp (u64), measured latency (u16), source (u16) and stamp unit (u8, 0 or 1), whether one is held
 //!     (u8, 0 or 1), and the number of its counter (u8, 0 if none is held);
 //! - the length of what the listing prints (u16) and its bytes.
+//!
+//! A reasons vector is
+//! - the length of an event file (u32, at most 131,072) and its bytes, also 1 to 15 after the last whole record;
+//! - the number of questions (u16, at most 3,000), and 17 bytes for each, by the place in them:
+//!   - 0: how many bytes of the record number are there, 0 to 4. With fewer than 4 the input of `explain` ends there,
+//!     and has nothing of the event file;
+//!   - 1-4: these bytes, and zeros after them;
+//!   - 5: the length of what `explain` prints, 2 or 11;
+//!   - 6-16: its bytes, and zeros after them.
 
 use crate::answers::Answer;
 use crate::events::{read, record_answers, refused_lines, Preset, RECORD};
@@ -47,9 +56,11 @@ use crate::facts::{facts, Facts, WindowFacts, COUNTERS, NO_EVENT};
 use crate::history::{Call, PAGE_LENGTH};
 use crate::page::{page, settings_back};
 use crate::reading::{listing, read_page};
+use crate::reasons::{EventFile, NUMBER, REFUSED};
 
 pub const LONGEST_FILE: usize = 131_072;
 pub const LONGEST_BUFFER: u16 = 4_200;
+pub const MOST_QUESTIONS: u16 = 3_000;
 /// The bytes of the counts below A of both windows.
 const BELOW_A_BYTES: usize = 24;
 /// The fields of a page vector, and where they have the counts of the two windows.
@@ -70,11 +81,18 @@ pub struct SettingsVector {
     pub patches: Vec<(u16, u8)>,
 }
 
+/// An event file, and the record numbers that are asked for, each as those of its bytes that are there.
+pub struct ReasonsVector {
+    pub file: Vec<u8>,
+    pub numbers: Vec<Vec<u8>>,
+}
+
 pub enum Vectors {
     Events(Vec<EventVector>),
     Settings(Vec<SettingsVector>),
     /// What is read as a page.
     Pages(Vec<Vec<u8>>),
+    Reasons(Vec<ReasonsVector>),
 }
 
 pub struct Group {
@@ -101,6 +119,10 @@ pub fn write(groups: &[Group]) -> Vec<u8> {
             Vectors::Pages(vectors) => {
                 out.extend((vectors.len() as u32).to_le_bytes());
                 vectors.iter().for_each(|v| write_page(&mut out, v));
+            }
+            Vectors::Reasons(vectors) => {
+                out.extend((vectors.len() as u32).to_le_bytes());
+                vectors.iter().for_each(|v| write_reasons(&mut out, v));
             }
         }
     }
@@ -204,6 +226,25 @@ fn write_window(out: &mut Vec<u8>, window: &WindowFacts) {
     events.iter().for_each(|event| out.push(event.stamp_unit.into()));
 }
 
+fn write_reasons(out: &mut Vec<u8>, vector: &ReasonsVector) {
+    out.extend((vector.file.len() as u32).to_le_bytes());
+    out.extend(&vector.file);
+    out.extend((vector.numbers.len() as u16).to_le_bytes());
+    let file = EventFile::new(&vector.file);
+    for number in &vector.numbers {
+        write_padded::<NUMBER>(out, number);
+        write_padded::<{ REFUSED.len() }>(out, file.printed(number).as_bytes());
+    }
+}
+
+/// The number of the bytes, and these with zeros after them.
+fn write_padded<const N: usize>(out: &mut Vec<u8>, bytes: &[u8]) {
+    let mut padded = [0; N];
+    padded[..bytes.len()].copy_from_slice(bytes);
+    out.push(bytes.len() as u8);
+    out.extend(padded);
+}
+
 /// The refusal, or 0 and the bytes.
 fn write_answer<const N: usize>(out: &mut Vec<u8>, answer: &Result<[u8; N], u8>) {
     match answer {
@@ -240,6 +281,8 @@ fn check_group(reader: &mut Reader) -> Result<String, String> {
             check_settings(reader)?;
         } else if name.starts_with("pages") {
             check_page(reader)?;
+        } else if name.starts_with("reasons") {
+            check_reasons(reader)?;
         } else {
             check_events(reader)?;
         }
@@ -354,6 +397,29 @@ fn check_page(reader: &mut Reader) -> Result<(), String> {
     Ok(())
 }
 
+/// 16 is due also where the number's bytes are not all there or no whole record has it.
+fn check_reasons(reader: &mut Reader) -> Result<(), String> {
+    let length = reader.u32()? as usize;
+    if length > LONGEST_FILE {
+        return reader.wrong("an event file too long");
+    }
+    reader.bytes(length)?;
+    let questions = reader.u16()?;
+    if questions > MOST_QUESTIONS {
+        return reader.wrong("too many questions");
+    }
+    for _ in 0..questions {
+        let number = reader.padded(NUMBER)?;
+        let printed = reader.padded(REFUSED.len())?;
+        let record = number.try_into().map(u32::from_le_bytes);
+        let reason = matches!(printed, [b'0'..=b'6', b'\n']) && record.is_ok_and(|n| (n as usize) < length / RECORD);
+        if !reason && printed != REFUSED.as_bytes() {
+            return reader.wrong("what is printed for a record number");
+        }
+    }
+    Ok(())
+}
+
 /// What is yes or no is 0 or 1, and the source of a debug log is its counter's bit.
 fn fields_fit(fields: &[u8]) -> bool {
     let flags = [11..12, 182..194, 362..374, 386..388];
@@ -395,6 +461,15 @@ impl<'a> Reader<'a> {
                 Ok(bytes)
             }
             None => self.wrong("the file ends too early"),
+        }
+    }
+
+    /// How many bytes there are, and these, with zeros after them up to so many.
+    fn padded(&mut self, most: usize) -> Result<&'a [u8], String> {
+        let length = usize::from(self.u8()?);
+        match self.bytes(most)?.split_at_checked(length) {
+            Some((bytes, zeros)) if zeros.iter().all(|&b| b == 0) => Ok(bytes),
+            _ => self.wrong("bytes that are not padded"),
         }
     }
 
