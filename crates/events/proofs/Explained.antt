@@ -1,7 +1,7 @@
 -- What is said of a record: by a file in parts, and with the refused records skipped.
-use mathlib.Core.Bool.{Bool, true, false}
+use mathlib.Core.Bool.{Bool, true, false, true≢false}
 use mathlib.Core.List.{List, [], _∷_, _++_, append-nil}
-use mathlib.Core.Option.{Option, none, some}
+use mathlib.Core.Option.{Option, none, some, Option·some-ne-none}
 use mathlib.Core.Path.{_≡_, refl, sym, ap, _∙_}
 use Prim.Native.Nat.{ℕ, zero, suc, _+_, _-_, _*_, _%_, _<_, _≤_}
 use native.Mathlib.Omega.{arith}
@@ -76,6 +76,19 @@ two-parts q s t e = by (ltb (q .before) (wholeRecords s)) refl
         ap (λ (k : ℕ). reasonAt (q .monitor) (s ++ t) k) split ∙
         (later (q .monitor) s t whole (q .before - wholeRecords s) ∙
         (rw (h, take-all (16 * q .before) s (omega (arith, passed, whole)))))
+
+-- nothing is said of a record that a part ends before
+pub ends-before : (q : Question) (s : List ℕ) → partSaid q s ≡ none → wholeRecords s ≤ q .before
+unfolding reasonAt
+ends-before q s e = by (ltb (q .before) (wholeRecords s)) refl
+  where
+    by : (t : Bool) → ltb (q .before) (wholeRecords s) ≡ t → wholeRecords s ≤ q .before
+    by true h = absurd (Option·some-ne-none _ (rw h at e))
+    by false h = ltb-false (q .before) (wholeRecords s) h
+
+pub says-nothing : (o : Option Said) → found true (λ said. false) o ≡ true → o ≡ none
+says-nothing none e = refl
+says-nothing (some said) e = absurd (true≢false (sym e))
 
 -- any parts
 first-or-end : (o x : Option Said) → found (atEnd x) (λ said. said) o ≡ atEnd (orElse o x)

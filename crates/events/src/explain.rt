@@ -1,9 +1,11 @@
 // Why a completion of an event file does not load a latency stamp (document 02, Ticket 5). The file is read in parts, up
 // to the record that is asked about.
+ghost use mathlib.Core.Bool.{true, false};
 ghost use mathlib.Core.Path.{_≡_};
 ghost use mathlib.Core.Option.{some};
 ghost use Prim.Native.Nat.{_≤_};
 ghost use lib.ListN.{length};
+ghost use Rattle.monitor.specs.History.{found};
 ghost use Rattle.text.specs.Lines.{asLine};
 ghost use Rattle.events.specs.Explain.{recordReason, atEnd, numberSaid, saidLine, questionOf, afterPart, partSaid};
 ghost use Rattle.events.specs.Explain.{saysExplained};
@@ -100,6 +102,17 @@ impl Question {
             let said = Explained::Unread;
             Explanation { next, said }
         }
+    }
+}
+
+// Whether nothing is said yet, so that there is more to be read.
+pub fn unread(e: Explained) -> bool
+    ensures { λ r. ⌜ r ≡ found true (λ said. false) (saysExplained e) ⌝ }
+{
+    match e {
+        Explained::Reason(_) => false,
+        Explained::Refused(_) => false,
+        Explained::Unread => true,
     }
 }
 

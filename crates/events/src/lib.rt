@@ -15,6 +15,7 @@ pub use explain::Explained;
 pub use explain::Explanation;
 pub use explain::Question;
 pub use explain::explained_line;
+pub use explain::unread;
 pub use files::Halt;
 pub use files::Stop;
 pub use files::left_over;

@@ -1,5 +1,5 @@
 // An event file in blocks, as the page program takes it, with the lines of what is refused.
-ghost use Prim.Native.Nat.{_<_};
+ghost use Prim.Native.Nat.{_<_, _≤_};
 use crate::compare;
 use crate::play;
 use monitor::Monitor;
@@ -45,19 +45,19 @@ fn block(t: Told, s: &[u8], first: usize, expected: &[u8]) -> Told {
     met(next, &out[..len], expected)
 }
 
-// Where a block from record i on ends, if the records go up to another.
-fn block_end(i: usize, to: usize) -> usize
-    requires { ⌜ i < to ⌝ }
-    ensures { λ r. ⌜ i < r ⌝ }
+// Where a block of at most this size ends, which begins at i and goes no further than another place.
+pub(crate) fn block_end(i: usize, to: usize, size: usize) -> usize
+    requires { ⌜ (i < to) × (0 < size) ⌝ }
+    ensures { λ r. ⌜ (i < r) × (r ≤ to) ⌝ }
 {
-    if to - i < BLOCK { to } else { i + BLOCK }
+    if to - i < size { to } else { i + size }
 }
 
 // The records of a file from one number up to another.
 pub fn records(mut t: Told, file: &[u8], from: usize, to: usize, expected: &[u8]) -> Told {
     let mut i = from;
     while i < to {
-        let end = block_end(i, to);
+        let end = block_end(i, to, BLOCK);
         t = block(t, play::part(file, i, end), i, expected);
         i = end;
     }

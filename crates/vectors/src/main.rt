@@ -5,6 +5,7 @@ mod compare;
 mod input;
 mod pages;
 mod play;
+mod reasons;
 mod vector;
 
 use input::Part;
@@ -58,6 +59,8 @@ fn kind_of(name: &[u8]) -> Kind {
         Kind::Settings
     } else if starts(name, b"pages") {
         Kind::Pages
+    } else if starts(name, b"reasons") {
+        Kind::Reasons
     } else {
         Kind::Events
     }

@@ -1,10 +1,11 @@
-// One vector of the file: its call, event file or page given to the product, and the answers compared.
+// One vector of the file: its call, event file, questions or page given to the product, and the answers compared.
 use crate::blocks::Told;
 use crate::compare;
 use crate::input;
 use crate::input::Part;
 use crate::pages;
 use crate::play;
+use crate::reasons;
 use monitor::Answer;
 use monitor::Monitor;
 use monitor::WindowChoice;
@@ -22,6 +23,7 @@ pub enum Kind {
     Events,
     Settings,
     Pages,
+    Reasons,
 }
 
 pub fn judged(agrees: bool) -> Verdict {
@@ -184,5 +186,6 @@ pub fn next(kind: Kind) -> Verdict {
         Kind::Events => events(),
         Kind::Settings => settings(),
         Kind::Pages => pages::next(),
+        Kind::Reasons => reasons::next(),
     }
 }
