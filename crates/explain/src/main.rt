@@ -95,10 +95,9 @@ fn run() {
         os::fail(b"explain: cannot read");
     } else {
         let e = Question::new(&number[..n]);
-        let question = e.next;
         let said = e.said;
         if events::unread(said) {
-            search(question);
+            search(e.next);
         } else {
             print(said);
         }

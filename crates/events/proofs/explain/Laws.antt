@@ -13,9 +13,10 @@ use Rattle.monitor.specs.declared.commands.Command.{Command}
 use Rattle.monitor.specs.declared.record.Monitor.{Monitor}
 use Rattle.monitor.specs.History.{Call, settings, completion, elapsed, clock, powerUp, asked, completionIn, found, playFrom}
 use Rattle.monitor.specs.Reasons.{reasonOf}
+use Rattle.monitor.specs.Record.{newMonitor}
 use Rattle.events.specs.declared.explain.Question.{Question}
 use Rattle.events.specs.Explain.{reason, notACompletion, completionAt, recordReason, bytesBefore, reasonAt}
-use Rattle.events.specs.Explain.{numberSaid, afterPart, partSaid}
+use Rattle.events.specs.Explain.{recordNumber, numberSaid, questionOf, afterPart, partSaid}
 use Rattle.events.specs.Records.{recordKind, attribute, unnamed, settingsBytes, commandOf, completionOf, elapsedOf}
 use Rattle.events.specs.Records.{clockOf, callOfKind, callOf, isCompletion, recordAt, wholeRecords, historyOf}
 
@@ -27,6 +28,15 @@ number-short n h = rw (lt-ltb n 4 h)
 pub number-whole : (n : ℕ) → 4 ≤ n → none ≡ numberSaid n
 unfolding numberSaid
 number-whole n h = rw (le-ltb n 4 h)
+
+-- the question that a number asks
+pub asks :
+    (bytes : List ℕ) (m : Monitor) (n : ℕ) →
+    m ≡ newMonitor →
+    n ≡ recordNumber bytes →
+    _≡_ {A = Question} (record { monitor = m; before = n }) (questionOf bytes)
+unfolding questionOf
+asks bytes m n is-new is-number = rw (is-new, is-number)
 
 -- a record that is a completion
 pub completion-said :

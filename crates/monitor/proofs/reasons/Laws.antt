@@ -4,7 +4,7 @@ use mathlib.Core.List.{List, [], _∷_}
 use mathlib.Core.Logic.{_↔_}
 use mathlib.Core.Option.{Option, none, some, Option·none-ne-some}
 use mathlib.Core.Path.{_≡_, refl, sym, _∙_}
-use Prim.Native.Nat.{ℕ, zero, suc, _+_, _<_, _≤_}
+use Prim.Native.Nat.{ℕ, zero, suc, _+_, _-_, _<_, _≤_}
 use native.Mathlib.Omega.{arith}
 use borrow.Author.Tests.{ltb-true, ltb-false}
 use lib.Dec.{eqb, ltb}
@@ -20,6 +20,7 @@ use Rattle.monitor.specs.Counting.{bit, larger, waited, loads}
 use Rattle.monitor.specs.Reasons.{lowest, applying, reasonOf, stampReasonOf, IsLowest, AnswersLowest}
 use Rattle.monitor.specs.Reasons.{ZeroWhereLoaded}
 use Rattle.monitor.specs.Record.{sinceLoad, completionAnswer}
+use Rattle.monitor.specs.Timer.{inWindow}
 use Rattle.monitor.proofs.commands.Laws.{Becomes, slow, fast, kindless, disabled, becomes, at-no-kind}
 
 -- r is the number of the first of a list that is true, counted from n on, or 0
@@ -160,14 +161,16 @@ decided false true true false = refl
 decided false true true true = refl
 
 pub stamp-reason :
-    (m : Monitor) (ms n : ℕ) (u l g w : Bool) →
+    (m : Monitor) (ms n time : ℕ) (u l g w : Bool) →
+    time ≡ inWindow (m .timer) (m .partial) →
     eqb (getD (m .«active_window» .stamps) n 0) unset ≡ u →
     bit (m .settings .mode) n ≡ l →
     larger (getD (m .«active_window» .latencies) n 0) ms ≡ g →
-    waited (sinceLoad m n) (m .settings .«minimum_window») ≡ w →
+    waited (time - getD (m .loaded) n 0) (m .settings .«minimum_window») ≡ w →
     stampReason u l g w ≡ stampReasonOf m ms n
 unfolding stampReasonOf
-stamp-reason m ms n u l g w is-unset mode is-larger is-over = rw (is-unset, mode, is-larger, is-over) (decided u l g w)
+stamp-reason m ms n time u l g w now is-unset mode is-larger is-over =
+    rw (is-unset, mode, is-larger, ← now, is-over) (decided u l g w)
 
 -- it is 0 where the stamp is loaded
 zero-where : (u l g w : Bool) → (stampReason u l g w ≡ 0) ↔ ((u || (l && (g && w))) ≡ true)
@@ -201,7 +204,7 @@ zero-where-loaded m c = by (counterOf (m .settings) c) refl
         (reasonOf m c ≡ 0) ↔ (loadedIn (completionAnswer m c) ≡ true)
     by none e = ((λ z. absurd (no-zero m c e z)), (λ l. absurd (true≢false (sym (rw e at l)))))
     by (some n) e =
-        rw (reason-of-counter m c n _ e refl, ← stamp-reason m (millisecondsOf c) n _ _ _ _ refl refl refl refl, e)
+        rw (reason-of-counter m c n _ e refl, ← stamp-reason m (millisecondsOf c) n _ _ _ _ _ refl refl refl refl refl, e)
         (zero-where (eqb (getD (m .«active_window» .stamps) n 0) unset) (bit (m .settings .mode) n)
         (larger (getD (m .«active_window» .latencies) n 0) (millisecondsOf c))
         (waited (sinceLoad m n) (m .settings .«minimum_window»)))

@@ -1,7 +1,7 @@
 -- `Question::new`: four bytes are loaded whole, and fit.
 use native.Mathlib.Omega.{arith}
 use borrow.Author.Needs.{needs}
-use Rattle.events.specs.Explain.{questionOf}
+use Rattle.events.proofs.explain.Laws.{asks}
 use Rattle.events.proofs.records.Laws.{loaded, four-fit}
 use Rattle.events.proofs.explain.Question.new.Statement.{statement}
 use Rattle.events.proofs.explain.Question.new.Tie as tie
@@ -28,13 +28,11 @@ number-said-requires : tie.Need-number-said-requires
 number-said-requires c κs = search needs
 
 returns : tie.Need-returns
-unfolding questionOf
 returns c =
     let at = c .before in
-    let bytes = at .before .before .before .before .args .number .now in (
-      rw (at .before .before .new .ensures, at .load .ensures, at .before .first-bytes .ensures, loaded bytes 4 (omega arith)),
-      c .number-said .ensures,
-    )
+    let bytes = at .before .before .before .before .args .number .now in
+    let number = rw (at .before .first-bytes .ensures, loaded bytes 4 (omega arith)) at (at .load .ensures) in
+    (asks _ _ _ (at .before .before .new .ensures) number, c .number-said .ensures)
 
 pub new-spec : {M : Type 1} → statement M
 new-spec =

@@ -38,11 +38,13 @@ waited-requires : tie.Need-waited-requires
 waited-requires c κs = search needs
 
 returns : tie.Need-returns
-returns c = stamp-reason _ _ _ true _ _ _ (eq-eqb _ _ (c .if1 .taken)) refl refl refl
+returns c =
+    stamp-reason _ _ _ _ true _ _ _ (c .before .in-window .ensures) (eq-eqb _ _ (c .if1 .taken)) refl refl refl
 
 returns-2 : tie.Need-returns-2
 returns-2 c =
-    stamp-reason _ _ _ false false _ _ (ne-eqb _ _ (c .before .before .if1 .left))
+    let set = c .before .before in
+    stamp-reason _ _ _ _ false false _ _ (set .before .in-window .ensures) (ne-eqb _ _ (set .if1 .left))
     (sym (c .before .bit .ensures) ∙ not-true _ (c .if2 .taken))
     refl
     refl
@@ -50,7 +52,8 @@ returns-2 c =
 returns-3 : tie.Need-returns-3
 returns-3 c =
     let mode = c .before .before in
-    stamp-reason _ _ _ false true false _ (ne-eqb _ _ (mode .before .before .if1 .left))
+    let set = mode .before .before in
+    stamp-reason _ _ _ _ false true false _ (set .before .in-window .ensures) (ne-eqb _ _ (set .if1 .left))
     (sym (mode .before .bit .ensures) ∙ not-false _ (mode .if2 .left))
     (sym (c .before .larger .ensures) ∙ not-true _ (c .if3 .taken))
     refl
@@ -59,21 +62,21 @@ returns-4 : tie.Need-returns-4
 returns-4 c =
     let larger = c .before .before in
     let mode = larger .before .before in
-    let time = mode .before .before .before .in-window .ensures in
-    stamp-reason _ _ _ false true true false (ne-eqb _ _ (mode .before .before .if1 .left))
+    let set = mode .before .before in
+    stamp-reason _ _ _ _ false true true false (set .before .in-window .ensures) (ne-eqb _ _ (set .if1 .left))
     (sym (mode .before .bit .ensures) ∙ not-false _ (mode .if2 .left))
     (sym (larger .before .larger .ensures) ∙ not-false _ (larger .if3 .left))
-    (rw time at (sym (c .before .waited .ensures) ∙ not-true _ (c .if4 .taken)))
+    (sym (c .before .waited .ensures) ∙ not-true _ (c .if4 .taken))
 
 returns-5 : tie.Need-returns-5
 returns-5 c =
     let larger = c .before .before in
     let mode = larger .before .before in
-    let time = mode .before .before .before .in-window .ensures in
-    stamp-reason _ _ _ false true true true (ne-eqb _ _ (mode .before .before .if1 .left))
+    let set = mode .before .before in
+    stamp-reason _ _ _ _ false true true true (set .before .in-window .ensures) (ne-eqb _ _ (set .if1 .left))
     (sym (mode .before .bit .ensures) ∙ not-false _ (mode .if2 .left))
     (sym (larger .before .larger .ensures) ∙ not-false _ (larger .if3 .left))
-    (rw time at (sym (c .before .waited .ensures) ∙ not-false _ (c .if4 .left)))
+    (sym (c .before .waited .ensures) ∙ not-false _ (c .if4 .left))
 
 pub stamp-reason-spec : {M : Type 1} → statement M
 stamp-reason-spec =
