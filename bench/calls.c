@@ -41,6 +41,18 @@ static _Alignas(64) struct log_page pages[LONG];
 /* The counts below A of a monitor that is ready. */
 #define BELOW_A (1 + (UINT64_C(2) << WRITE_AT) + (UINT64_C(3) << DEALLOCATE_AT))
 
+/* Of a lap's slow commands each counter's first is not larger than its measured latency, and the others are. */
+#define NOT_LARGER (COUNTERS * LATENCY_MONITOR_REASON_NOT_LARGER)
+
+enum { REASONS = LATENCY_MONITOR_REASON_MINIMUM_WINDOW + 1 };
+
+static const char *const names[CALLS] = {
+    [NEW] = "new", [CONFIGURE] = "configure", [COMPLETION] = "completion", [ELAPSED] = "elapsed",
+    [SET_CLOCK] = "set_clock", [POWER_UP] = "power_up", [ACTIVE_BELOW_A] = "active_below_a",
+    [STATIC_BELOW_A] = "static_below_a", [REASON] = "reason", [PAGE] = "page", [READ_PAGE] = "read_page",
+    [SETTINGS_BACK] = "settings_back"
+};
+
 /* Where stamps are loaded, each lap starts with a new window. */
 static const struct work works[] = {
     [EMPTY_COMPLETION] = {.name = "empty completion", .call = EMPTY_COMPLETION, .calls = SHORT, .commands = slow},
@@ -56,6 +68,12 @@ static const struct work works[] = {
     {.name = "power_up", .call = POWER_UP, .calls = SHORT},
     {.name = "active_below_a", .call = ACTIVE_BELOW_A, .calls = SHORT, .answers = SHORT * BELOW_A},
     {.name = "static_below_a", .call = STATIC_BELOW_A, .calls = SHORT},
+    {.name = "reason, below A", .call = REASON, .calls = SHORT, .commands = below,
+        .answers = SHORT * LATENCY_MONITOR_REASON_BELOW_A},
+    {.name = "reason, mode first", .call = REASON, .calls = SHORT, .commands = slow, .mode = FIRST,
+        .answers = SHORT * LATENCY_MONITOR_REASON_MODE_FIRST},
+    {.name = "reason, mode largest", .call = REASON, .calls = SHORT, .commands = slow, .mode = LARGEST,
+        .answers = NOT_LARGER},
     {.name = "page", .call = PAGE, .calls = LONG},
     {.name = "read_page", .call = READ_PAGE, .calls = LONG, .pages = pages},
     {.name = "settings_back", .call = SETTINGS_BACK, .calls = LONG},
@@ -213,15 +231,27 @@ static void check_below_a(const char *name)
     }
 }
 
-/* All sides answer alike, and then have the same counts below A. */
-static void play_alike(struct stroke stroke)
+/* All sides answer alike, and then have the same counts below A. Gives the answer. */
+static uint64_t play_alike(struct stroke stroke)
 {
     uint64_t answer = sides[0]->once(&stroke);
 
     for (int s = 1; s < SIDES; s++)
         if (sides[s]->once(&stroke) != answer)
-            fail("completion", "the answers differ");
-    check_below_a("completion");
+            fail(names[stroke.call], "the answers differ");
+    check_below_a(names[stroke.call]);
+    return answer;
+}
+
+/* Asks for the reason and brings the completion, which loads its stamp exactly if there is none. Gives the reason. */
+static uint64_t ask_and_complete(struct latency_monitor_command command)
+{
+    uint64_t reason = play_alike((struct stroke){.call = REASON, .command = command});
+    uint64_t answer = play_alike((struct stroke){.call = COMPLETION, .command = command});
+
+    if ((answer >> LOADED_AT & 1) != (reason == LATENCY_MONITOR_REASON_NONE))
+        fail("reason", "it is not what the completion answers");
+    return reason;
 }
 
 /* Every opcode, without the deallocate attribute and with it, just below A and at A. */
@@ -232,8 +262,39 @@ static void complete_alike(void)
     for (int opcode = 0; opcode < 256; opcode++)
         for (int deallocate = 0; deallocate < 2; deallocate++)
             for (uint32_t us = a_us - 1; us <= a_us; us++)
-                play_alike((struct stroke){.call = COMPLETION,
-                    .command = {.latency = us, .opcode = (uint8_t)opcode, .deallocate = deallocate}});
+                ask_and_complete((struct latency_monitor_command){
+                    .latency = us, .opcode = (uint8_t)opcode, .deallocate = deallocate});
+}
+
+/* Drawn modes and minimum windows; few counters, so that stamps are met again, and time at the minimum window's end,
+ * over the timer's increment and over a few windows. */
+static void draw_reasons(unsigned met[REASONS])
+{
+    static const uint32_t some_ms[5] = {0, 1, 99, 100, 199};
+    struct named_settings drawn = settings_of(2, (uint16_t)draw(4096), TRIGGER, draw(8) > 0);
+
+    drawn.bytes[8] = (uint8_t)draw(4);
+    play_alike((struct stroke){.call = CONFIGURE, .settings = drawn});
+    for (int i = 0; i < 200; i++) {
+        struct latency_monitor_command command = draw(10) ? command_for((int)draw(4), draw(9000)) : below[draw(SHORT)];
+        command.deallocate &= draw(10) > 0;
+        met[ask_and_complete(command)]++;
+        play_alike((struct stroke){.call = ELAPSED, .ms = draw(50) ? some_ms[draw(5)] : INCREMENT_MS});
+    }
+}
+
+/* All sides give the same reasons, and each of them. */
+static void check_reasons(void)
+{
+    unsigned met[REASONS] = {0};
+
+    for (int s = 0; s < SIDES; s++)
+        make_ready(sides[s], FIRST);
+    for (int i = 0; i < 200; i++)
+        draw_reasons(met);
+    for (int reason = 0; reason < REASONS; reason++)
+        if (met[reason] == 0)
+            fail("reason", "one of them was not met");
 }
 
 /* The counts below A in a window, after its end, disabled, and enabled again. */
@@ -380,6 +441,7 @@ static void print_times(size_t rounds)
 
     check_readings();
     check_counts();
+    check_reasons();
     for (int k = 0; k < WORKS; k++) {
         const double *empty = middle[empty_of(works[k].call)];
         int c;
@@ -413,7 +475,8 @@ static void note_depths(const struct side *side, size_t depth[CALLS])
     const struct stroke strokes[] = {
         {.call = NEW}, {.call = CONFIGURE, .settings = settings_of(1, LARGEST, LARGEST, true)},
         {.call = SET_CLOCK, .clock = 1}, {.call = COMPLETION, .command = below[0]},
-        {.call = COMPLETION, .command = slow[0]}, {.call = ELAPSED, .ms = 1}, {.call = ELAPSED, .ms = INCREMENT_MS},
+        {.call = COMPLETION, .command = slow[0]}, {.call = REASON, .command = below[0]},
+        {.call = REASON, .command = slow[0]}, {.call = ELAPSED, .ms = 1}, {.call = ELAPSED, .ms = INCREMENT_MS},
         {.call = ELAPSED, .ms = INCREMENT_MS + 1}, {.call = POWER_UP}, {.call = ACTIVE_BELOW_A},
         {.call = STATIC_BELOW_A}, {.call = PAGE}, {.call = SETTINGS_BACK},
         {.call = READ_PAGE, .page = &pages[0]}, {.call = READ_PAGE, .page = &pages[1]},
@@ -430,12 +493,6 @@ static void note_depths(const struct side *side, size_t depth[CALLS])
 
 static void print_stack(void)
 {
-    static const char *const names[CALLS] = {
-        [NEW] = "new", [CONFIGURE] = "configure", [COMPLETION] = "completion", [ELAPSED] = "elapsed",
-        [SET_CLOCK] = "set_clock", [POWER_UP] = "power_up", [ACTIVE_BELOW_A] = "active_below_a",
-        [STATIC_BELOW_A] = "static_below_a", [PAGE] = "page", [READ_PAGE] = "read_page",
-        [SETTINGS_BACK] = "settings_back"
-    };
     size_t depth[SIDES][CALLS] = {{0}};
 
     for (int s = 0; s < SIDES; s++)

@@ -1,7 +1,7 @@
 #!/usr/bin/env bash
 # Measures the calls of the product's archive beside the monitor in C: time, instructions, record and stack.
 #   bench/calls.sh [ROUNDS]
-# Fails if answers, pages, what is read of them, or settings given back differ.
+# Fails if answers, reasons, pages, what is read of them, or settings given back differ.
 set -euo pipefail
 top=$(cd "$(dirname "$0")/.." && pwd)
 bench=$top/bench

@@ -10,6 +10,12 @@ enum { INCREMENT_MS = 300000, NAMED_SETTINGS = 13, VERSION = 4 };
 /* A command as a number: its opcode, and DEALLOCATE more with the deallocate attribute or bit. */
 enum { WRITE = 0x01, READ = 0x02, WRITE_ZEROES = 0x08, DATASET_MANAGEMENT = 0x09, DEALLOCATE = 0x100 };
 
+/* Kinds, from 1 on, by command, and no branch: no processor can guess the kind of the next one. */
+static const uint8_t kinds[] = {
+    [READ] = 1, [READ + DEALLOCATE] = 1, [WRITE] = 2, [WRITE + DEALLOCATE] = 2,
+    [WRITE_ZEROES + DEALLOCATE] = 3, [DATASET_MANAGEMENT + DEALLOCATE] = 3
+};
+
 /* The place of a field's lowest bit in the answer to a completion. */
 #define AT(field) (8 * offsetof(struct latency_monitor_completion_answer, field))
 
@@ -154,11 +160,6 @@ static bool debug(struct in_place *m, unsigned n, uint16_t ms)
 /* The answer as a number: that is made in a register, where gcc takes a small struct through memory. */
 static uint64_t completed(struct in_place *m, uint16_t command, uint32_t us)
 {
-    /* Kinds, from 1 on, by command, and no branch: no processor can guess the kind of the next one. */
-    static const uint8_t kinds[] = {
-        [READ] = 1, [READ + DEALLOCATE] = 1, [WRITE] = 2, [WRITE + DEALLOCATE] = 2,
-        [WRITE_ZEROES + DEALLOCATE] = 3, [DATASET_MANAGEMENT + DEALLOCATE] = 3
-    };
     uint32_t ms = us / 1000;
     unsigned kind, bucket = 3, n;
     uint64_t loaded, logged;
@@ -181,17 +182,54 @@ static uint64_t completed(struct in_place *m, uint16_t command, uint32_t us)
         | logged << AT(debug);
 }
 
+/* Opcode and attribute, the byte after it, as one number: one index into the table of kinds. */
+static uint16_t command_number(const struct latency_monitor_command *command)
+{
+    return get16((const uint8_t *)command + offsetof(struct latency_monitor_command, opcode));
+}
+
 struct latency_monitor_completion_answer in_place_completion(
     struct in_place *m, struct latency_monitor_command command)
 {
-    /* Opcode and attribute, the byte after it, as one number: one index into the table of kinds. */
-    const uint8_t *opcode = (const uint8_t *)&command + offsetof(struct latency_monitor_command, opcode);
     union {
         uint64_t number;
         struct latency_monitor_completion_answer answer;
-    } u = {completed(m, get16(opcode), command.latency)};
+    } u = {completed(m, command_number(&command), command.latency)};
 
     return u.answer;
+}
+
+/* Why a completion would not load the stamp of counter n. */
+static uint8_t stamp_reason(const struct in_place *m, unsigned n, uint16_t ms)
+{
+    const struct in_place_window *w = &m->active_window;
+
+    if (w->stamp[n] == LATENCY_MONITOR_UNSET)
+        return LATENCY_MONITOR_REASON_NONE;
+    if (!(m->mode >> n & 1))
+        return LATENCY_MONITOR_REASON_MODE_FIRST;
+    if (ms <= w->latency[n])
+        return LATENCY_MONITOR_REASON_NOT_LARGER;
+    if (m->time - m->load_time[n] < 100u * m->minimum_window)
+        return LATENCY_MONITOR_REASON_MINIMUM_WINDOW;
+    return LATENCY_MONITOR_REASON_NONE;
+}
+
+uint8_t in_place_reason(const struct in_place *m, struct latency_monitor_command command)
+{
+    uint16_t number = command_number(&command);
+    uint32_t us = command.latency, ms = us / 1000;
+    unsigned bucket = 3;
+
+    if (!m->enabled)
+        return LATENCY_MONITOR_REASON_DISABLED;
+    if (command.opcode > DATASET_MANAGEMENT || kinds[number] == 0)
+        return LATENCY_MONITOR_REASON_OF_NO_KIND;
+    if (us < m->threshold_us[0])
+        return LATENCY_MONITOR_REASON_BELOW_A;
+    while (us < m->threshold_us[bucket])
+        bucket--;
+    return stamp_reason(m, 3 * bucket + kinds[number] - 1u, ms > UINT16_MAX ? UINT16_MAX : (uint16_t)ms);
 }
 
 struct latency_monitor_elapsed_answer in_place_elapsed(struct in_place *m, uint32_t ms)

@@ -68,6 +68,7 @@ uint8_t in_place_set_clock(struct in_place *m, uint64_t ms);
 uint8_t in_place_power_up(struct in_place *m);
 struct latency_monitor_below_a in_place_active_below_a(const struct in_place *m);
 struct latency_monitor_below_a in_place_static_below_a(const struct in_place *m);
+uint8_t in_place_reason(const struct in_place *m, struct latency_monitor_command command);
 uint8_t in_place_page(const struct in_place *m, uint8_t *page, size_t length);
 uint8_t in_place_settings_back(const struct in_place *m, uint8_t *settings, size_t length);
 uint8_t in_place_read_page(struct in_place_reading *r, const uint8_t *page, size_t length);

@@ -53,6 +53,7 @@ static uint64_t once(const struct stroke *s)
     case POWER_UP: return CALL(power_up)(&record);
     case ACTIVE_BELOW_A: return below_a_number(CALL(active_below_a)(&record));
     case STATIC_BELOW_A: return below_a_number(CALL(static_below_a)(&record));
+    case REASON: return CALL(reason)(&record, s->command);
     case PAGE: return CALL(page)(&record, page, sizeof page);
     case READ_PAGE: return CALL(read_page)(&reading, s->page->bytes, sizeof s->page->bytes);
     case SETTINGS_BACK: return CALL(settings_back)(&record, settings, sizeof settings);
@@ -80,6 +81,7 @@ LAP(set_clock_lap, CALL(set_clock)(&record, w->clocks[i]))
 LAP(power_up_lap, CALL(power_up)(&record))
 LAP(active_below_a_lap, below_a_number(CALL(active_below_a)(&record)))
 LAP(static_below_a_lap, below_a_number(CALL(static_below_a)(&record)))
+LAP(reason_lap, CALL(reason)(&record, w->commands[i]))
 LAP(page_lap, CALL(page)(&record, page, sizeof page))
 LAP(read_page_lap, CALL(read_page)(&reading, w->pages[i].bytes, sizeof w->pages[i].bytes))
 LAP(settings_back_lap, CALL(settings_back)(&record, settings, sizeof settings))
@@ -90,8 +92,8 @@ static uint64_t run(const struct work *w, size_t laps)
         [EMPTY_COMPLETION] = empty_completion_lap, [EMPTY_NUMBER] = empty_number_lap, [NEW] = new_lap,
         [CONFIGURE] = configure_lap, [COMPLETION] = completion_lap, [ELAPSED] = elapsed_lap,
         [SET_CLOCK] = set_clock_lap, [POWER_UP] = power_up_lap,
-        [ACTIVE_BELOW_A] = active_below_a_lap, [STATIC_BELOW_A] = static_below_a_lap, [PAGE] = page_lap,
-        [READ_PAGE] = read_page_lap, [SETTINGS_BACK] = settings_back_lap
+        [ACTIVE_BELOW_A] = active_below_a_lap, [STATIC_BELOW_A] = static_below_a_lap, [REASON] = reason_lap,
+        [PAGE] = page_lap, [READ_PAGE] = read_page_lap, [SETTINGS_BACK] = settings_back_lap
     };
     uint64_t sum = 0;
 

@@ -4,10 +4,10 @@
 
 #include "latency_monitor.h"
 
-/* The eleven calls, after two that do nothing: one answers as a completion does, the other a number. */
+/* The twelve calls, after two that do nothing: one answers as a completion does, the other a number. */
 enum call {
     EMPTY_COMPLETION, EMPTY_NUMBER,
-    NEW, CONFIGURE, COMPLETION, ELAPSED, SET_CLOCK, POWER_UP, ACTIVE_BELOW_A, STATIC_BELOW_A, PAGE, READ_PAGE,
+    NEW, CONFIGURE, COMPLETION, ELAPSED, SET_CLOCK, POWER_UP, ACTIVE_BELOW_A, STATIC_BELOW_A, REASON, PAGE, READ_PAGE,
     SETTINGS_BACK,
     CALLS
 };

@@ -76,6 +76,18 @@ enum latency_monitor_refusal {
     LATENCY_MONITOR_READ_LAYOUT = 15           /* it breaks a rule of the layout */
 };
 
+/* Why a command would not load a latency stamp; the lowest that applies is the answer. 4 to 6 are of a stamp that is
+ * set, 5 and 6 in mode largest. */
+enum latency_monitor_reason_number {
+    LATENCY_MONITOR_REASON_NONE = 0,          /* it would load the stamp */
+    LATENCY_MONITOR_REASON_DISABLED = 1,      /* the monitor is disabled */
+    LATENCY_MONITOR_REASON_OF_NO_KIND = 2,    /* its opcode or attribute is not counted */
+    LATENCY_MONITOR_REASON_BELOW_A = 3,       /* it is below threshold A */
+    LATENCY_MONITOR_REASON_MODE_FIRST = 4,    /* the counter is in mode first */
+    LATENCY_MONITOR_REASON_NOT_LARGER = 5,    /* its latency in ms is not larger than the measured latency */
+    LATENCY_MONITOR_REASON_MINIMUM_WINDOW = 6 /* the minimum window is not over since the stamp's last load */
+};
+
 /* The settings in force. */
 struct latency_monitor_settings {
     uint16_t timer_threshold; /* in increments of five minutes */
@@ -200,6 +212,13 @@ struct latency_monitor_below_a latency_monitor_active_below_a(const struct laten
 
 /* The same in the static window. */
 struct latency_monitor_below_a latency_monitor_static_below_a(const struct latency_monitor *monitor);
+
+/*
+ * Why a completed command would not load a latency stamp, were it brought to latency_monitor_completion now: an
+ * enum latency_monitor_reason_number, 0 where it would. The command is not taken, and never turned away: the record is
+ * only read. So ask before the completion; after it the record is another.
+ */
+uint8_t latency_monitor_reason(const struct latency_monitor *monitor, struct latency_monitor_command command);
 
 /* Writes log page C3h, 512 bytes; turned away by 9. */
 uint8_t latency_monitor_page(const struct latency_monitor *monitor, uint8_t *page, size_t length);

@@ -32,8 +32,10 @@ static void configure(void)
 static void complete_a_read(void)
 {
     const struct latency_monitor_command command = {.opcode = 0x02, .latency = 7500};
+    const uint8_t reason = latency_monitor_reason(&monitor, command);
     const struct latency_monitor_completion_answer answer = latency_monitor_completion(&monitor, command);
 
+    expect(reason == LATENCY_MONITOR_REASON_NONE, "nothing keeps the Read from loading its latency stamp");
     expect(answer.counted && answer.counter == 0, "the Read counts in bucket 0");
     expect(answer.loaded, "its latency stamp is loaded");
     expect(answer.debug, "a debug log is taken");
@@ -42,6 +44,16 @@ static void complete_a_read(void)
 static void complete_without_a_counter(struct latency_monitor_command command, const char *what)
 {
     expect(!latency_monitor_completion(&monitor, command).counted, what);
+}
+
+/* A slower Read would be counted, and not be seen in the stamp. */
+static void ask_for_the_reason(void)
+{
+    const struct latency_monitor_command slower = {.opcode = 0x02, .latency = 9000};
+
+    expect(latency_monitor_reason(&monitor, slower) == LATENCY_MONITOR_REASON_MODE_FIRST,
+        "in mode first the stamp stays that of the first Read");
+    expect(monitor.active_window.counters[0] == 1, "what is asked for is not counted");
 }
 
 /* No counter has them, and no page shows them. */
@@ -125,6 +137,7 @@ int main(void)
     elapsed = latency_monitor_elapsed(&monitor, 1000);
     expect(elapsed.refusal == LATENCY_MONITOR_ACCEPTED && !elapsed.ended, "the active window goes on");
     complete_a_read();
+    ask_for_the_reason();
     complete_others();
     power_cycle();
     compare_counts();

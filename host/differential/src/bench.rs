@@ -3,7 +3,7 @@
 use latency_monitor::{Monitor, RECORD_LENGTH};
 use reference::answers::{answer, Answer};
 use reference::facts::{facts, Facts};
-use reference::history::{Call, Window, PAGE_LENGTH, SETTINGS_LENGTH};
+use reference::history::{Call, Command, Window, PAGE_LENGTH, SETTINGS_LENGTH};
 use reference::page::page_bytes;
 use reference::random::Random;
 
@@ -51,19 +51,38 @@ impl Bench {
         Ok(self.tally)
     }
 
-    /// Makes a call on one of the monitors, and looks at all that can be seen.
+    /// Makes a call on one of the monitors, and looks at all that can be seen. Of a completion it asks for the reason
+    /// first.
     pub fn call(&mut self, at: usize, call: Call, salt: u8) -> Result<(), String> {
+        if let Call::Completion { command, latency_us } = call {
+            self.ask(at, command, latency_us)?;
+        }
         self.histories[at].push(call);
         let history = &self.histories[at];
         let (due, facts) = (answer(history), facts(history));
         self.tally.call(&history[history.len() - 1], due, &self.facts[at], &facts);
-        step(&mut self.monitors, at, history, due, &facts, salt).map_err(|difference| {
-            let calls: String = history.iter().map(|call| shown(call) + "\n").collect();
-            format!("{calls}monitor {at}, after the last of these calls: {difference}")
-        })?;
+        step(&mut self.monitors, at, history, due, &facts, salt)
+            .map_err(|difference| after(history, at, &difference))?;
         self.facts[at] = facts;
         Ok(())
     }
+
+    /// Asks one of the monitors why a completion would not load its stamp.
+    pub fn ask(&mut self, at: usize, command: Command, latency_us: u32) -> Result<(), String> {
+        let history = &self.histories[at];
+        let (number, stamp_set) =
+            compare::reason(&self.monitors[at], history, command, latency_us).map_err(|difference| {
+                after(history, at, &format!("asked for {latency_us} us of {command:?}: {difference}"))
+            })?;
+        self.tally.reason(number, stamp_set);
+        Ok(())
+    }
+}
+
+/// A difference, and the calls that it was seen after.
+fn after(history: &[Call], at: usize, difference: &str) -> String {
+    let calls: String = history.iter().map(|call| shown(call) + "\n").collect();
+    format!("{calls}monitor {at}, after the last of these calls: {difference}")
 }
 
 /// Makes the last call of a history with these facts; the other monitors stay as they were.

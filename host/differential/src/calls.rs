@@ -29,7 +29,10 @@ pub fn next(random: &mut Random, history: &[Call]) -> Call {
         return Call::Settings(in_order(random).to_buffer());
     }
     match random.below(100) {
-        0..=43 => completion(random, history),
+        0..=43 => {
+            let (command, latency_us) = completion(random, history);
+            Call::Completion { command, latency_us }
+        }
         44..=69 => Call::Elapsed(elapsed(random, history)),
         70..=78 => Call::Settings(settings(random, history)),
         79..=85 => Call::Timestamp(timestamp(random)),
@@ -46,14 +49,14 @@ fn beside(number: u32, by: i32) -> u32 {
 }
 
 /// Half of the completions have the command of the one before, so that they meet the same counter.
-fn completion(random: &mut Random, history: &[Call]) -> Call {
+pub fn completion(random: &mut Random, history: &[Call]) -> (Command, u32) {
     let last = history.iter().rev().find_map(|call| match call {
         Call::Completion { command, latency_us } => Some((*command, *latency_us)),
         _ => None,
     });
     let (last_command, last_latency) = last.unwrap_or((OF_A_KIND[0], 5_000));
     let command = if random.chance(50) { last_command } else { command(random) };
-    Call::Completion { command, latency_us: latency(random, history, last_latency) }
+    (command, latency(random, history, last_latency))
 }
 
 /// A command, most of them with an opcode that may count, with or without the deallocate attribute.

@@ -4,14 +4,14 @@ use std::fmt::Debug;
 use std::ops::Range;
 
 use latency_monitor::{
-    read_page, BelowA, Command, CompletionAnswer, DamagedRecord, DebugLog, ElapsedAnswer, Monitor, Reading, Record,
-    Refusal, Settings as Held, Window,
+    read_page, BelowA, Command, CompletionAnswer, DamagedRecord, DebugLog, ElapsedAnswer, Monitor, Reading, Reason,
+    Record, Refusal, Settings as Held, Window, UNSET,
 };
 use reference::answers::Answer;
 use reference::facts::{clock, facts, window_time, Facts, WindowFacts, NO_STAMP};
 use reference::history::{Call, Command as Completed, Settings, Window as Asked, INCREMENT_MS, PAGE_LENGTH};
 use reference::page::page_bytes;
-use reference::reading;
+use reference::{reading, reasons};
 
 use crate::lent::{difference, Lent};
 
@@ -40,6 +40,25 @@ pub fn call(monitor: &mut Monitor, call: &Call, due: Answer, facts: &Facts, salt
         left(&record, monitor)?;
     }
     Ok(())
+}
+
+/// Asks why a completion would not load its stamp after a history. Compares the reason, which is 0 exactly if the
+/// completion would load it, and the record, which must be left. Gives the reason, and whether the completion meets a
+/// stamp that is set.
+pub fn reason(monitor: &Monitor, history: &[Call], asked: Completed, latency_us: u32) -> Result<(u8, bool), String> {
+    let record = *monitor.as_bytes();
+    let command = Command { opcode: asked.opcode, deallocate: asked.deallocate, latency: latency_us };
+    let number = monitor.reason(command).map_or(0, Reason::number);
+    left(&record, monitor)?;
+    same("reason", number, reasons::reason(history, asked, latency_us))?;
+    let (loaded, stamp_set) = match monitor.clone().completion(command) {
+        CompletionAnswer::NotCounted => (false, false),
+        CompletionAnswer::Counted { counter, loaded, .. } => {
+            (loaded, monitor.record().active_window.stamps[counter] != UNSET)
+        }
+    };
+    same("whether its stamp is loaded", loaded, number == 0)?;
+    Ok((number, stamp_set))
 }
 
 /// Reads bytes into fields that are lent, and compares the answer and the fields, which are a new monitor's if the bytes

@@ -1,5 +1,5 @@
-//! Plays histories on the C library and compares it with the reference after every call; then reads their pages, as they
-//! are and damaged.
+//! Plays histories on the C library and compares it with the reference after every call, and asks it for reasons; then
+//! reads their pages, as they are and damaged.
 //!
 //!     differential          the sweeps, and the random histories of all seeds
 //!     differential SEED     the random histories of one seed
@@ -24,6 +24,8 @@ use tally::Tally;
 const SEEDS: u64 = 100_000;
 /// More than one, so that calls run at the same time.
 const THREADS: usize = 4;
+/// Reasons that are asked for after each call.
+const QUESTIONS: usize = 2;
 
 fn main() -> ExitCode {
     let run = match std::env::args().nth(1) {
@@ -104,6 +106,10 @@ fn play(seed: u64) -> Result<Tally, String> {
         to_make[at] -= 1;
         let call = calls::next(&mut random, bench.history(at));
         bench.call(at, call, random.bits() as u8).map_err(named)?;
+        for _ in 0..QUESTIONS {
+            let (command, latency_us) = calls::completion(&mut random, bench.history(at));
+            bench.ask(at, command, latency_us).map_err(named)?;
+        }
     }
     bench.read_pages(&mut random).map_err(named)?;
     bench.end().map_err(named)

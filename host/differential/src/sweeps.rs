@@ -8,7 +8,7 @@ use crate::calls::{reached, OF_A_KIND};
 const LONGEST: usize = 4_200;
 
 pub fn histories() -> impl Iterator<Item = Vec<Call>> {
-    lengths().chain(settings()).chain(completions())
+    lengths().chain(settings()).chain(completions()).chain(minimum_windows())
 }
 
 /// Document 01's settings, with every trigger.
@@ -53,4 +53,28 @@ fn completed(settings: Settings, command: Command, latencies: [u32; 2]) -> Vec<C
     let mut calls = vec![Call::Settings(settings.to_buffer())];
     calls.extend(latencies.map(|latency_us| Call::Completion { command, latency_us }));
     calls
+}
+
+/// Each minimum window for each command of a kind, in mode largest.
+fn minimum_windows() -> impl Iterator<Item = Vec<Call>> {
+    (0..=0xFF).flat_map(|minimum_window| {
+        let settings = Settings { mode: 0x0FFF, minimum_window, ..base() };
+        OF_A_KIND.map(|command| around_the_end(settings, command))
+    })
+}
+
+/// A load, and completions that are not larger and larger by 1 ms, 1 ms before the minimum window is over and then.
+fn around_the_end(settings: Settings, command: Command) -> Vec<Call> {
+    let over = 100 * u32::from(settings.minimum_window);
+    let completion = |latency_us| Call::Completion { command, latency_us };
+    vec![
+        Call::Settings(settings.to_buffer()),
+        completion(7_000),
+        Call::Elapsed(over.saturating_sub(1)),
+        completion(7_999),
+        completion(8_000),
+        Call::Elapsed(over.min(1)),
+        completion(7_999),
+        completion(8_000),
+    ]
 }

@@ -1,5 +1,5 @@
-//! How often each call, refusal, answer and command was met, what became of counts below A, and each of the pages that
-//! are read.
+//! How often each call, refusal, answer, command and reason was met, what became of counts below A, and each of the
+//! pages that are read.
 
 use std::fmt::{Display, Formatter, Result as Written};
 
@@ -41,6 +41,8 @@ const COMMANDS: [&str; 10] = [
 /// Completions that were counted, by kind, and what met counts that were not all zero: a window's end that moved them,
 /// and one that put others in their place; settings that emptied or kept them; a completion below A while disabled.
 const BELOW_A: [&str; 8] = ["Read", "Write", "Deallocate", "moved", "replaced", "emptied", "kept", "frozen"];
+/// By number; 0 of a stamp that is not set, and of one that is.
+const REASONS: [&str; 8] = ["0", "1", "2", "3", "4", "5", "6", "0 with a stamp set"];
 const PAGES: [&str; 4] = ["accepted", "by 13", "by 14", "by 15"];
 
 #[derive(Clone, Default)]
@@ -54,6 +56,7 @@ pub struct Tally {
     /// Commands below A.
     fast: [u64; COMMANDS.len()],
     below_a: [u64; BELOW_A.len()],
+    reasons: [u64; REASONS.len()],
     pages: [u64; PAGES.len()],
 }
 
@@ -92,6 +95,12 @@ impl Tally {
         }
     }
 
+    /// A reason that was asked for, by number, and whether the completion met a stamp that was set.
+    pub fn reason(&mut self, number: u8, stamp_set: bool) {
+        let case = if number == 0 && stamp_set { REASONS.len() - 1 } else { number.into() };
+        self.reasons[case] += 1;
+    }
+
     /// A page that was read, accepted by 0.
     pub fn page(&mut self, answer: u8) {
         self.pages[usize::from(answer.saturating_sub(12))] += 1;
@@ -114,7 +123,7 @@ impl Tally {
         }
     }
 
-    fn groups(&self) -> [Group<'_>; 7] {
+    fn groups(&self) -> [Group<'_>; 8] {
         [
             ("calls", &CALLS, &self.calls),
             ("refused", &REFUSALS, &self.refusals),
@@ -122,6 +131,7 @@ impl Tally {
             ("slow commands, by deallocate attribute", &COMMANDS, &self.slow),
             ("commands below A, by deallocate attribute", &COMMANDS, &self.fast),
             ("counts below A", &BELOW_A, &self.below_a),
+            ("reasons", &REASONS, &self.reasons),
             ("pages read", &PAGES, &self.pages),
         ]
     }
@@ -130,7 +140,7 @@ impl Tally {
     fn counts_mut(&mut self) -> impl Iterator<Item = &mut u64> {
         let of_calls = self.calls.iter_mut().chain(&mut self.refusals).chain(&mut self.answers);
         let of_commands = self.slow.iter_mut().chain(&mut self.fast);
-        of_calls.chain(of_commands).chain(&mut self.below_a).chain(&mut self.pages)
+        of_calls.chain(of_commands).chain(&mut self.below_a).chain(&mut self.reasons).chain(&mut self.pages)
     }
 }
 

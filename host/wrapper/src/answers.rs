@@ -73,6 +73,55 @@ pub(crate) fn accepted(number: u8) -> Result<(), Refusal> {
     })
 }
 
+/// Why a command would not load a latency stamp, with the numbers of document 02, Ticket 5. The last three are of a
+/// stamp that is set.
+#[derive(Clone, Copy, Debug, PartialEq, Eq)]
+#[repr(u8)]
+pub enum Reason {
+    Disabled = 1,
+    /// Its opcode or attribute is not counted.
+    OfNoKind = 2,
+    BelowA = 3,
+    ModeFirst = 4,
+    /// In mode largest: its latency in ms is not larger than the measured one.
+    NotLarger = 5,
+    /// In mode largest: the minimum window is not over since the last load.
+    MinimumWindow = 6,
+}
+
+impl Reason {
+    pub fn number(self) -> u8 {
+        self as u8
+    }
+}
+
+impl Display for Reason {
+    fn fmt(&self, f: &mut Formatter) -> Written {
+        f.write_str(match self {
+            Reason::Disabled => "the monitor is disabled",
+            Reason::OfNoKind => "the opcode or attribute is not counted",
+            Reason::BelowA => "the latency is below threshold A",
+            Reason::ModeFirst => "the stamp is set, in mode first",
+            Reason::NotLarger => "the latency is not larger than the measured one",
+            Reason::MinimumWindow => "the minimum window is not over",
+        })
+    }
+}
+
+/// The reason of a number, none if the stamp would be loaded.
+pub(crate) fn reason(number: u8) -> Option<Reason> {
+    Some(match number {
+        0 => return None,
+        1 => Reason::Disabled,
+        2 => Reason::OfNoKind,
+        3 => Reason::BelowA,
+        4 => Reason::ModeFirst,
+        5 => Reason::NotLarger,
+        6 => Reason::MinimumWindow,
+        _ => unreachable!("the library has no reason {number}"),
+    })
+}
+
 /// The answer to a completion.
 #[derive(Clone, Copy, Debug, PartialEq, Eq)]
 pub enum CompletionAnswer {

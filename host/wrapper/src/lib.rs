@@ -41,7 +41,7 @@ mod sys;
 
 use core::mem::MaybeUninit;
 
-pub use answers::{CompletionAnswer, ElapsedAnswer, Refusal};
+pub use answers::{CompletionAnswer, ElapsedAnswer, Reason, Refusal};
 pub use reading::read_page;
 pub use restore::DamagedRecord;
 pub use sys::{BelowA, Command, DebugLog, LogPage, Reading, Record, Settings, Window, COUNTERS};
@@ -133,6 +133,37 @@ impl Monitor {
     pub fn static_below_a(&self) -> BelowA {
         // SAFETY: the record is only read.
         unsafe { sys::latency_monitor_static_below_a(&self.0) }
+    }
+
+    /// Why a completed command would not load a latency stamp, were it brought to [`completion`](Monitor::completion)
+    /// now: the lowest reason, none where it would. The record is only read, and the command not taken; after the
+    /// completion the record is another.
+    ///
+    /// ```
+    /// use latency_monitor::{offsets, Command, Monitor, Reason, SETTINGS_LENGTH};
+    ///
+    /// let mut settings = [0; SETTINGS_LENGTH];
+    /// settings[offsets::TIMER_THRESHOLD] = 2;
+    /// settings[offsets::THRESHOLDS..][..4].copy_from_slice(&[0, 1, 3, 9]);
+    /// settings[offsets::MODE] = 1; // largest, for counter 0
+    /// settings[offsets::MINIMUM_WINDOW] = 1;
+    /// settings[offsets::ENABLE] = 1;
+    ///
+    /// let mut monitor = Monitor::new();
+    /// monitor.configure(&settings)?;
+    /// let read = Command { opcode: 0x02, deallocate: false, latency: 7_500 };
+    /// assert_eq!(monitor.reason(read), None);
+    /// monitor.completion(read);
+    /// assert_eq!(monitor.reason(read), Some(Reason::NotLarger));
+    /// let slower = Command { latency: 8_000, ..read };
+    /// assert_eq!(monitor.reason(slower), Some(Reason::MinimumWindow));
+    /// monitor.elapsed(100)?;
+    /// assert_eq!(monitor.reason(slower), None);
+    /// # Ok::<(), latency_monitor::Refusal>(())
+    /// ```
+    pub fn reason(&self, command: Command) -> Option<Reason> {
+        // SAFETY: the record is only read.
+        answers::reason(unsafe { sys::latency_monitor_reason(&self.0, command) })
     }
 
     /// Writes log page C3h, 512 bytes.

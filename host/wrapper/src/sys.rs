@@ -150,6 +150,7 @@ extern "C" {
     pub fn latency_monitor_power_up(monitor: *mut Record) -> u8;
     pub fn latency_monitor_active_below_a(monitor: *const Record) -> BelowA;
     pub fn latency_monitor_static_below_a(monitor: *const Record) -> BelowA;
+    pub fn latency_monitor_reason(monitor: *const Record, command: Command) -> u8;
     pub fn latency_monitor_page(monitor: *const Record, page: *mut u8, length: usize) -> u8;
     pub fn latency_monitor_settings_back(monitor: *const Record, settings: *mut u8, length: usize) -> u8;
     pub fn latency_monitor_read_page(reading: *mut Reading, page: *const u8, length: usize) -> u8;

@@ -1,10 +1,10 @@
-//! The wrapper's constants, refusals and layouts are the header's.
+//! The wrapper's constants, refusals, reasons and layouts are the header's.
 
 use std::mem::offset_of;
 
 use latency_monitor::{
-    offsets, BelowA, Command, Record, Refusal, COUNTERS, PAGE_LENGTH, READING_LENGTH, RECORD_LENGTH, RECORD_VERSION,
-    SETTINGS_LENGTH,
+    offsets, BelowA, Command, Reason, Record, Refusal, COUNTERS, PAGE_LENGTH, READING_LENGTH, RECORD_LENGTH,
+    RECORD_VERSION, SETTINGS_LENGTH,
 };
 
 const HEADER: &str = include_str!("../../../include/latency_monitor.h");
@@ -38,9 +38,9 @@ fn constants() {
     }
 }
 
-/// The names and numbers of the header's refusals.
-fn listed() -> Vec<(&'static str, u8)> {
-    let (_, list) = HEADER.split_once("enum latency_monitor_refusal {\n").expect("the list");
+/// The names and numbers of an enum of the header.
+fn listed(name: &str) -> Vec<(&'static str, u8)> {
+    let (_, list) = HEADER.split_once(&format!("enum latency_monitor_{name} {{\n")).expect("the list");
     let (list, _) = list.split_once("};").expect("its end");
     let named = |line: &'static str| -> Option<(&'static str, u8)> {
         let (name, rest) = line.trim().strip_prefix("LATENCY_MONITOR_")?.split_once(" = ")?;
@@ -68,7 +68,22 @@ fn refusals() {
     ];
     let mut due = vec![("ACCEPTED", 0)];
     due.extend(refusals.map(|(name, refusal)| (name, refusal.number())));
-    assert_eq!(listed(), due);
+    assert_eq!(listed("refusal"), due);
+}
+
+#[test]
+fn reasons() {
+    let reasons = [
+        ("REASON_DISABLED", Reason::Disabled),
+        ("REASON_OF_NO_KIND", Reason::OfNoKind),
+        ("REASON_BELOW_A", Reason::BelowA),
+        ("REASON_MODE_FIRST", Reason::ModeFirst),
+        ("REASON_NOT_LARGER", Reason::NotLarger),
+        ("REASON_MINIMUM_WINDOW", Reason::MinimumWindow),
+    ];
+    let mut due = vec![("REASON_NONE", 0)];
+    due.extend(reasons.map(|(name, reason)| (name, reason.number())));
+    assert_eq!(listed("reason_number"), due);
 }
 
 fn assert_held(line: &str) {
