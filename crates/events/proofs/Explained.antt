@@ -13,7 +13,7 @@ use Rattle.monitor.specs.declared.record.Monitor.{Monitor}
 use Rattle.monitor.specs.History.{found, andThen, orElse, playFrom}
 use Rattle.events.specs.declared.explain.Question.{Question}
 use Rattle.events.specs.Claims.{InParts, joined, OfWholeRecords, ExplainedInParts, RefusedSkipped}
-use Rattle.events.specs.Explain.{Said, bytesBefore, reasonAt, atEnd, recordNumber, numberSaid, explanation, questionOf}
+use Rattle.events.specs.Explain.{Said, bytesBefore, reasonAt, atEnd, numberSaid, explanation, questionOf}
 use Rattle.events.specs.Explain.{afterPart, partSaid, partsSaid}
 use Rattle.events.specs.Records.{callOf, recordRefusal, acceptedCall, recordAt, wholeRecords, callsBefore}
 use Rattle.events.specs.Records.{acceptedBefore, historyOf, afterRecord}

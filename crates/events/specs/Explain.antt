@@ -1,6 +1,5 @@
 -- 02, Ticket 5: what is said of a record of an event file, by its number from 0: the reason why it does not load a
 -- latency stamp, or that it is turned away.
-use mathlib.Core.Bool.{cond}
 use mathlib.Core.List.{List, [], _∷_}
 use mathlib.Core.Option.{Option, none, some}
 use Prim.Native.Nat.{ℕ, _-_, _*_}
@@ -49,7 +48,7 @@ reasonAt m s n =
 abbrev pub atEnd : Option Said → Said
 atEnd o = found notACompletion (λ said. said) o
 
--- the number's four bytes, lowest first, are turned away if they are not all there
+-- the number that an input begins with: four bytes, lowest first. It is turned away where they are not all there
 abbrev pub recordNumber : List ℕ → ℕ
 recordNumber bytes = number (take 4 bytes)
 

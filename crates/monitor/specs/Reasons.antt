@@ -1,5 +1,5 @@
 -- 02, Ticket 5: why a completion does not load a latency stamp, asked of the record before it.
-use mathlib.Core.Bool.{Bool, true, false, cond, not, _&&_}
+use mathlib.Core.Bool.{Bool, true, false, not, _&&_}
 use mathlib.Core.List.{List, [], _∷_, map}
 use mathlib.Core.Logic.{_↔_}
 use mathlib.Core.Path.{_≡_}
@@ -19,7 +19,7 @@ use Rattle.monitor.specs.Record.{sinceLoad, completionAnswer}
 abbrev pub Reason : Type 0
 Reason = Monitor → Command → Bool
 
--- 1
+-- 1: the monitor is disabled
 abbrev pub disabled : Reason
 disabled m c = not (m .settings .enabled)
 
@@ -27,12 +27,12 @@ disabled m c = not (m .settings .enabled)
 abbrev pub ofNoKind : Reason
 ofNoKind m c = not (hasKind c)
 
--- 3
+-- 3: the latency is below threshold A
 abbrev pub belowA : Reason
 belowA m c = not (reachesA (m .settings .thresholds) c)
 
--- a sentence about a completion of so many ms and counter n; of the completion's own counter, by its bucket and kind.
--- Without a counter it is not true
+-- a sentence about the record, a completion of so many ms, and counter n; and the same of the completion's own counter,
+-- that of its bucket and kind. Where there is none, it is not true
 abbrev pub CounterReason : Type 0
 CounterReason = Monitor → (ms n : ℕ) → Bool
 
@@ -40,23 +40,25 @@ abbrev pub ofCounter : CounterReason → Reason
 ofCounter test m c =
     found false (test m (millisecondsOf c)) (counterAt (bucketOf (m .settings .thresholds) c) (kindOf c))
 
--- counter n's stamp is set, in mode first or in mode largest
-abbrev isSet : Monitor → (n : ℕ) → (largest : Bool) → Bool
-isSet m n largest = not (eqb (getD (m .«active_window» .stamps) n 0) unset) && largest
+-- counter n's stamp is set; its mode is largest
+abbrev isSet : Monitor → ℕ → Bool
+isSet m n = not (eqb (getD (m .«active_window» .stamps) n 0) unset)
+
+abbrev inLargest : Monitor → ℕ → Bool
+inLargest m n = bit (m .settings .mode) n
 
 -- 4: mode first with a stamp set
 abbrev pub setInFirst : CounterReason
-setInFirst m ms n = isSet m n (not (bit (m .settings .mode) n))
+setInFirst m ms n = isSet m n && not (inLargest m n)
 
 -- 5: not larger, in mode largest with a stamp set
 abbrev pub notLarger : CounterReason
-notLarger m ms n =
-    isSet m n (bit (m .settings .mode) n) && not (larger (getD (m .«active_window» .latencies) n 0) ms)
+notLarger m ms n = (isSet m n && inLargest m n) && not (larger (getD (m .«active_window» .latencies) n 0) ms)
 
 -- 6: within the minimum window, in mode largest with a stamp set
 abbrev pub withinMinimum : CounterReason
 withinMinimum m ms n =
-    isSet m n (bit (m .settings .mode) n) && not (waited (sinceLoad m n) (m .settings .«minimum_window»))
+    (isSet m n && inLargest m n) && not (waited (sinceLoad m n) (m .settings .«minimum_window»))
 
 -- the six, in the ticket's order
 abbrev pub counterReasons : List CounterReason
@@ -83,8 +85,8 @@ reasonOf m c = lowest 1 (applying m c)
 unfoldable pub stampReasonOf : Monitor → (ms n : ℕ) → ℕ
 stampReasonOf m ms n = lowest 4 (map (λ (reason : CounterReason). reason m ms n) counterReasons)
 
--- What is claimed, for any content of the record. If the answer is a reason, that one is true; if a reason is true, the
--- answer is that one or a lower one
+-- What is claimed, for any content of the record. Entry k of the list is reason k + 1. If the answer is a reason, that
+-- one is true; if a reason is true, the answer is that one or a lower one
 pub record IsLowest (applies : List Bool) (answer : ℕ) : Type 0 where
   pub told : (k : ℕ) → answer ≡ suc k → getD applies k false ≡ true
   pub least : (k : ℕ) → getD applies k false ≡ true → (1 ≤ answer) × (answer ≤ suc k)

@@ -1,7 +1,6 @@
 -- `put_digits`: the digits that are left, stored from the start, give the whole.
 use mathlib.Core.Path.{_≡_}
 use Prim.Native.Nat.{_≤_}
-use native.Mathlib.Omega.{arith}
 use borrow.Author.Needs.{needs}
 use lib.ListN.{length}
 use lib.Seq.{sets}

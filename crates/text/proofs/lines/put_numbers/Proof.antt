@@ -5,7 +5,6 @@ use borrow.Author.Needs.{needs}
 use lib.ListN.{length, take}
 use Rattle.text.specs.Lines.{spaced}
 use Rattle.text.specs.Stored.{Stored}
-use Rattle.text.proofs.Storing.{same-room}
 use Rattle.text.proofs.lines.Laws.{numbers-more, numbers-end}
 use Rattle.text.proofs.lines.put_numbers.Statement.{statement}
 use Rattle.text.proofs.lines.put_numbers.Tie as tie

@@ -1,10 +1,8 @@
 -- `Question::read`: the part has the record, or ends before it.
-use mathlib.Core.Option.{some}
-use mathlib.Core.Path.{ap, _∙_}
+use mathlib.Core.Path.{_∙_}
 use borrow.Author.Needs.{needs}
-use Rattle.events.specs.Explain.{recordReason}
 use Rattle.events.proofs.explain.Laws.{part-reached, part-passed}
-use Rattle.events.proofs.files.Laws.{the-record, sixteen}
+use Rattle.events.proofs.files.Laws.{the-record}
 use Rattle.events.proofs.explain.Question.read.Statement.{statement}
 use Rattle.events.proofs.explain.Question.read.Tie as tie
 

@@ -1,5 +1,5 @@
 -- `Monitor::reason`: disabled; of no kind; below threshold A; and what the counter's stamp says.
-use mathlib.Core.Path.{_≡_, sym, _∙_}
+use mathlib.Core.Path.{sym, _∙_}
 use Prim.Native.Nat.{_<_}
 use borrow.Author.Needs.{needs}
 use borrow.Author.Tests.{not-true, not-false}
