@@ -1,4 +1,4 @@
--- Laws of the reasons: the lowest of a list; a completion without a counter, and one with a counter; and what is claimed.
+-- Laws of the reasons: the lowest of a list; a completion without a counter, and with one; and what is claimed.
 use mathlib.Core.Bool.{Bool, true, false, cond, not, true≢false, _&&_, _||_}
 use mathlib.Core.List.{List, [], _∷_}
 use mathlib.Core.Logic.{_↔_}
@@ -22,6 +22,7 @@ use Rattle.monitor.specs.Reasons.{ZeroWhereLoaded}
 use Rattle.monitor.specs.Record.{sinceLoad, completionAnswer}
 use Rattle.monitor.specs.Timer.{inWindow}
 use Rattle.monitor.proofs.commands.Laws.{Becomes, slow, fast, kindless, disabled, becomes, at-no-kind}
+use Rattle.monitor.proofs.commands.Laws.{counter-enabled}
 
 -- r is the number of the first of a list that is true, counted from n on, or 0
 data First (l : List Bool) (n r : ℕ) : Type 0 where
@@ -98,26 +99,25 @@ record Counts (s : Settings) (c : Command) (n : ℕ) : Type 0 where
   slow-enough : reachesA (s .thresholds) c ≡ true
   counter : counterAt (bucketOf (s .thresholds) c) (kindOf c) ≡ some n
 
+has-kind : (bucket : Option ℕ) (c : Command) (n : ℕ) → counterAt bucket (kindOf c) ≡ some n → hasKind c ≡ true
+has-kind bucket c n e = by (kindOf c) refl
+  where
+    by : (kind : Option ℕ) → kindOf c ≡ kind → hasKind c ≡ true
+    by (some k) is = rw is
+    by none is = absurd (Option·none-ne-some n (sym (at-no-kind bucket) ∙ (rw is at e)))
+
 counts : (s : Settings) (c : Command) (n : ℕ) → counterOf s c ≡ some n → Counts s c n
 unfolding counterOf
-counts s c n e = by (s .enabled) refl (reachesA (s .thresholds) c) refl (kindOf c) refl
+counts s c n e = by (reachesA (s .thresholds) c) refl
   where
-    nowhere : {o : Option ℕ} → counterOf s c ≡ o → o ≡ none → Counts s c n
-    nowhere e' none-is = absurd (Option·none-ne-some n (sym none-is ∙ sym e' ∙ e))
+    on : s .enabled ≡ true
+    on = counter-enabled s c n e
 
-    by :
-        (on : Bool) →
-        s .enabled ≡ on →
-        (slow-enough : Bool) →
-        reachesA (s .thresholds) c ≡ slow-enough →
-        (kind : Option ℕ) →
-        kindOf c ≡ kind →
-        Counts s c n
-    by false off reached a kind k = nowhere (rw off) refl
-    by true on false a kind k = nowhere (rw (on, a)) refl
-    by true on true a none k = nowhere (rw (on, a, k)) (at-no-kind (bucketOf (s .thresholds) c))
-    by true on true a (some kind) k =
-        record { on = on; kind = rw k; slow-enough = a; counter = rw (on, a) at e }
+    by : (t : Bool) → reachesA (s .thresholds) c ≡ t → Counts s c n
+    by true a =
+        let counter = rw (on, a) at e in
+        record { on = on; kind = has-kind (bucketOf (s .thresholds) c) c n counter; slow-enough = a; counter = counter }
+    by false a = absurd (Option·none-ne-some n (rw (on, a) at e))
 
 -- reasons 4 to 6, of a completion that has a counter
 pub reason-of-counter :
