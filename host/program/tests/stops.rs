@@ -19,7 +19,7 @@ fn three_blocks(numbers: &[usize]) -> (Vec<u8>, Vec<(u32, String)>) {
 /// The pipe stays open behind the block.
 #[test]
 fn with_more_to_come() {
-    // A completion, two that are none, and the next block's first and last records.
+    // Settings, a refused record, and completions up to the second block's last record.
     let (file, due) = three_blocks(&[0, 1, 3, RECORDS - 1, RECORDS, 2 * RECORDS - 1]);
     for (number, due) in due {
         let blocks = number as usize / RECORDS + 1;
