@@ -1,5 +1,5 @@
 #!/usr/bin/env bash
-# Measures the product beside C: its calls, its page program, then its sizes.
+# Measures the product beside C: its calls, its page program with `explain` beside that, then its sizes.
 #   bench/run.sh [ROUNDS]
 set -euo pipefail
 bench=$(cd "$(dirname "$0")" && pwd)

@@ -1,24 +1,31 @@
-//! Runs the page program as its users do, from a shell.
+//! Runs the programs on event files as their users do, from a shell.
 
 use std::env;
 use std::io::{Result, Write};
 use std::path::{Path, PathBuf};
-use std::process::{ChildStdin, Command, Output, Stdio};
+use std::process::{Child, ChildStdin, Command, Output, Stdio};
 use std::thread;
 
 use reference::events::{Events, RECORD};
 use reference::history::Settings;
 use reference::mixed;
 
-/// Names the program, where it is not the repository's.
-const PROGRAM: &str = "LATENCY_MONITOR_PAGE";
-/// Document 01's example, and what the program prints for it.
+/// Document 01's example, and what the page program prints for it.
 pub const SAMPLE: &str = concat!(env!("CARGO_MANIFEST_DIR"), "/../../samples/example.events");
 pub const SAMPLE_PAGE: &str = include_str!("../../../crates/page/stdout");
-/// The program reads so many bytes at a time.
+/// A program reads so many bytes at a time.
 pub const BLOCK: usize = 65_536;
 /// Whole records of a block.
 pub const RECORDS: usize = BLOCK / RECORD;
+
+pub struct Program {
+    name: &'static str,
+    /// Names the program, where it is not the repository's.
+    variable: &'static str,
+}
+
+pub const PAGE: Program = Program { name: "page", variable: "LATENCY_MONITOR_PAGE" };
+pub const EXPLAIN: Program = Program { name: "explain", variable: "LATENCY_MONITOR_EXPLAIN" };
 
 /// What a run wrote.
 pub struct Written {
@@ -26,35 +33,57 @@ pub struct Written {
     pub errors: String,
 }
 
-/// A run with these arguments and redirections, ended after a minute; `feed` writes its standard input.
-pub fn run(arguments: &[&str], redirections: &str, feed: impl FnOnce(&mut ChildStdin) -> Result<()> + Send) -> Written {
-    let mut child = Command::new("sh")
-        .args(["-c", &format!("exec timeout 60 \"$0\" \"$@\" {redirections}")])
-        .arg(env::var_os(PROGRAM).map_or_else(repositorys, PathBuf::from))
-        .args(arguments)
-        .stdin(Stdio::piped())
-        .stdout(Stdio::piped())
-        .stderr(Stdio::piped())
-        .spawn()
-        .expect("a shell");
-    let mut input = child.stdin.take().expect("a pipe");
-    let Output { status, stdout, stderr } = thread::scope(|scope| {
-        // Not every run reads its input, so a failed write is no failure.
-        scope.spawn(move || feed(&mut input).ok());
-        child.wait_with_output().expect("a run that ends")
-    });
-    assert!(status.success(), "page {arguments:?} {redirections}: {status}");
-    let text = |bytes| String::from_utf8(bytes).expect("text");
-    Written { output: text(stdout), errors: text(stderr) }
+impl Program {
+    /// A run to be, with these arguments and redirections, ended after a minute.
+    pub fn command(&self, arguments: &[&str], redirections: &str) -> Command {
+        let mut command = Command::new("sh");
+        command
+            .args(["-c", &format!("exec timeout 60 \"$0\" \"$@\" {redirections}")])
+            .arg(env::var_os(self.variable).map_or_else(|| self.repositorys(), PathBuf::from))
+            .args(arguments)
+            .stdin(Stdio::piped())
+            .stdout(Stdio::piped())
+            .stderr(Stdio::piped());
+        command
+    }
+
+    fn repositorys(&self) -> PathBuf {
+        Path::new(env!("CARGO_MANIFEST_DIR")).join("../../target/bin").join(self.name)
+    }
+
+    /// A run; `feed` writes its standard input.
+    pub fn run(
+        &self,
+        arguments: &[&str],
+        redirections: &str,
+        feed: impl FnOnce(&mut ChildStdin) -> Result<()> + Send,
+    ) -> Written {
+        let mut child = self.command(arguments, redirections).spawn().expect("a shell");
+        let mut input = child.stdin.take().expect("a pipe");
+        thread::scope(|scope| {
+            // Not every run reads its input, so a failed write is no failure.
+            scope.spawn(move || feed(&mut input).ok());
+            self.ended(child)
+        })
+    }
+
+    /// Waits for a run's end.
+    pub fn ended(&self, child: Child) -> Written {
+        let Output { status, stdout, stderr } = child.wait_with_output().expect("a run that ends");
+        assert!(status.success(), "{}: {status}", self.name);
+        let text = |bytes| String::from_utf8(bytes).expect("text");
+        Written { output: text(stdout), errors: text(stderr) }
+    }
+
+    /// A run with this standard input.
+    pub fn given(&self, input: &[u8]) -> Written {
+        self.run(&[], "", |pipe| pipe.write_all(input))
+    }
 }
 
-fn repositorys() -> PathBuf {
-    Path::new(env!("CARGO_MANIFEST_DIR")).join("../../target/bin/page")
-}
-
-/// A run with this standard input.
-pub fn given(file: &[u8]) -> Written {
-    run(&[], "", |input| input.write_all(file))
+/// What `explain` reads: a record's number, and the file.
+pub fn asked(number: u32, file: &[u8]) -> Vec<u8> {
+    [&number.to_le_bytes(), file].concat()
 }
 
 /// Holds a run to its output, line by line, and to silence on standard error.

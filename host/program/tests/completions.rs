@@ -1,6 +1,6 @@
 //! Byte 2 of a completion, its deallocate attribute or bit, and byte 3, which has no name.
 
-use program::{given, prints};
+use program::{prints, PAGE};
 use reference::events::{printed, Events, RECORD};
 use reference::history::Settings;
 
@@ -18,7 +18,7 @@ fn file(starts: impl IntoIterator<Item = [u8; 3]>) -> Vec<u8> {
 
 /// What the program prints, held to the reference: the lines of refused records, and the page's.
 fn lines(what: &str, file: &[u8]) -> (String, String) {
-    let written = given(file);
+    let written = PAGE.given(file);
     prints(what, &written, &printed(file));
     let (refused, page) = written.output.split_at(written.output.find("000:").expect("a page"));
     (refused.into(), page.into())

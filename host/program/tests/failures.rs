@@ -2,15 +2,23 @@
 
 use std::fs;
 use std::io::Write;
+use std::thread::sleep;
+use std::time::Duration;
 
-use program::{run, Written, BLOCK, SAMPLE};
+use program::{asked, Program, Written, BLOCK, EXPLAIN, PAGE, SAMPLE};
 
-const USAGE: &str = "usage: page [FILE]";
+/// Long enough for a reader of nothing to be gone.
+const PAUSE: Duration = Duration::from_millis(100);
 
-/// A run whose standard input is the sample.
-fn of_sample(arguments: &[&str], redirections: &str) -> Written {
+/// Each program, and the sample as its standard input.
+fn programs() -> [(Program, Vec<u8>); 2] {
     let sample = fs::read(SAMPLE).expect("the sample");
-    run(arguments, redirections, |input| input.write_all(&sample))
+    [(EXPLAIN, asked(2, &sample)), (PAGE, sample)]
+}
+
+/// Runs of both programs.
+fn of_sample(redirections: &str) -> [Written; 2] {
+    programs().map(|(program, input)| program.run(&[], redirections, |pipe| pipe.write_all(&input)))
 }
 
 fn says_a_line(written: &Written) {
@@ -18,37 +26,46 @@ fn says_a_line(written: &Written) {
     assert!(errors.ends_with('\n') && errors.lines().count() == 1, "not a line on standard error: {errors:?}");
 }
 
-/// Nothing is printed, since a page of what could not be read would be taken for the drive's.
-fn cannot_read(arguments: &[&str], redirections: &str) {
-    let written = of_sample(arguments, redirections);
-    says_a_line(&written);
+/// Nothing is printed, since an answer to what could not be read would be taken for the drive's.
+fn says_only_a_line(written: &Written) {
+    says_a_line(written);
     assert_eq!(written.output, "");
 }
 
+fn cannot_read(redirections: &str) {
+    of_sample(redirections).iter().for_each(says_only_a_line);
+}
+
+fn cannot_write(redirections: &str) {
+    of_sample(redirections).iter().for_each(says_a_line);
+}
+
 fn says_usage(arguments: &[&str]) {
-    let written = of_sample(arguments, "");
-    assert!(written.errors.contains(USAGE), "no usage on standard error: {:?}", written.errors);
-    assert_eq!(written.output, "");
+    for ((program, input), usage) in programs().iter().zip(["usage: explain < INPUT", "usage: page [FILE]"]) {
+        let written = program.run(arguments, "", |pipe| pipe.write_all(input));
+        assert!(written.errors.contains(usage), "no usage on standard error: {:?}", written.errors);
+        assert_eq!(written.output, "");
+    }
 }
 
 #[test]
 fn closed_input() {
-    cannot_read(&[], "<&-");
+    cannot_read("<&-");
 }
 
 #[test]
 fn input_for_writing() {
-    cannot_read(&[], "0> /dev/null");
+    cannot_read("0> /dev/null");
 }
 
 #[test]
 fn directory() {
-    cannot_read(&["/"], "");
+    says_only_a_line(&PAGE.run(&["/"], "", |_| Ok(())));
 }
 
 #[test]
 fn directory_as_input() {
-    cannot_read(&[], "< /");
+    cannot_read("< /");
 }
 
 #[test]
@@ -66,22 +83,47 @@ fn two_arguments() {
     says_usage(&[SAMPLE, SAMPLE]);
 }
 
+/// The page program takes a name, and `explain` none.
+#[test]
+fn name_of_a_file() {
+    let written = EXPLAIN.run(&[SAMPLE], "", |_| Ok(()));
+    says_only_a_line(&written);
+    assert_eq!(written.errors, "usage: explain < INPUT\n");
+}
+
 #[test]
 fn full_output() {
-    says_a_line(&of_sample(&[], "> /dev/full"));
+    cannot_write("> /dev/full");
 }
 
 #[test]
 fn full_output_of_refused_records() {
-    says_a_line(&run(&[], "> /dev/full", |input| input.write_all(&[0; 2 * BLOCK + 1])));
+    says_a_line(&PAGE.run(&[], "> /dev/full", |pipe| pipe.write_all(&[0; 2 * BLOCK + 1])));
+}
+
+#[test]
+fn full_output_of_a_refused_number() {
+    says_a_line(&EXPLAIN.run(&[], "> /dev/full", |pipe| pipe.write_all(&[0; 3])));
 }
 
 #[test]
 fn closed_output() {
-    says_a_line(&of_sample(&[], ">&-"));
+    cannot_write(">&-");
 }
 
 #[test]
 fn closed_output_of_a_named_file() {
-    says_a_line(&of_sample(&[SAMPLE], ">&-"));
+    says_a_line(&PAGE.run(&[SAMPLE], ">&-", |_| Ok(())));
+}
+
+/// A program whose reader is gone is ended by the system, and says nothing.
+#[test]
+fn closed_pipe() {
+    for (program, input) in programs() {
+        let written = program.run(&[], "| true", |pipe| {
+            sleep(PAUSE);
+            pipe.write_all(&input)
+        });
+        assert_eq!((written.output.as_str(), written.errors.as_str()), ("", ""));
+    }
 }

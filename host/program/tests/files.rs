@@ -4,7 +4,7 @@ use std::fs;
 use std::io::Write;
 use std::path::Path;
 
-use program::{busy, given, prints, run, Written, BLOCK, RECORDS, SAMPLE, SAMPLE_PAGE};
+use program::{busy, prints, Written, BLOCK, PAGE, RECORDS, SAMPLE, SAMPLE_PAGE};
 use reference::events::{printed, RECORD};
 use reference::groups::groups;
 use reference::vectors::Vectors;
@@ -13,12 +13,12 @@ use reference::vectors::Vectors;
 fn named(name: &str, file: &[u8]) -> Written {
     let path = Path::new(env!("CARGO_TARGET_TMPDIR")).join(name);
     fs::write(&path, file).expect("a file");
-    run(&[path.to_str().expect("a name in UTF-8")], "", |input| input.write_all(&[7; RECORD]))
+    PAGE.run(&[path.to_str().expect("a name in UTF-8")], "", |input| input.write_all(&[7; RECORD]))
 }
 
 fn check(name: &str, file: &[u8]) {
     let due = printed(file);
-    prints(&format!("{name}, by standard input"), &given(file), &due);
+    prints(&format!("{name}, by standard input"), &PAGE.given(file), &due);
     prints(&format!("{name}, by name"), &named(name, file), &due);
 }
 
@@ -31,7 +31,7 @@ fn sample() {
 
 #[test]
 fn a_named_file_needs_no_standard_input() {
-    prints("sample", &run(&[SAMPLE], "<&-", |_| Ok(())), SAMPLE_PAGE);
+    prints("sample", &PAGE.run(&[SAMPLE], "<&-", |_| Ok(())), SAMPLE_PAGE);
 }
 
 #[test]
@@ -39,7 +39,7 @@ fn vectors() {
     for group in groups() {
         let Vectors::Events(vectors) = group.vectors else { continue };
         for (number, vector) in vectors.iter().enumerate() {
-            prints(&format!("{} {number}", group.name), &given(&vector.file), &printed(&vector.file));
+            prints(&format!("{} {number}", group.name), &PAGE.given(&vector.file), &printed(&vector.file));
         }
     }
 }
