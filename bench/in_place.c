@@ -157,12 +157,20 @@ static bool debug(struct in_place *m, unsigned n, uint16_t ms)
     return true;
 }
 
+/* The latency in whole ms, as many as two bytes hold. */
+static uint16_t milliseconds(uint32_t us)
+{
+    uint32_t ms = us / 1000;
+
+    return ms > UINT16_MAX ? UINT16_MAX : (uint16_t)ms;
+}
+
 /* The answer as a number: that is made in a register, where gcc takes a small struct through memory. */
 static uint64_t completed(struct in_place *m, uint16_t command, uint32_t us)
 {
-    uint32_t ms = us / 1000;
     unsigned kind, bucket = 3, n;
     uint64_t loaded, logged;
+    uint16_t ms;
 
     if (!m->enabled || (uint8_t)command > DATASET_MANAGEMENT || kinds[command] == 0)
         return 0;
@@ -174,10 +182,9 @@ static uint64_t completed(struct in_place *m, uint16_t command, uint32_t us)
     while (us < m->threshold_us[bucket])
         bucket--;
     n = 3 * bucket + kind;
-    if (ms > UINT16_MAX)
-        ms = UINT16_MAX;
-    loaded = count(m, n, (uint16_t)ms);
-    logged = debug(m, n, (uint16_t)ms);
+    ms = milliseconds(us);
+    loaded = count(m, n, ms);
+    logged = debug(m, n, ms);
     return (uint64_t)n << AT(counter) | UINT64_C(1) << AT(counted) | loaded << AT(loaded)
         | logged << AT(debug);
 }
@@ -218,7 +225,7 @@ static uint8_t stamp_reason(const struct in_place *m, unsigned n, uint16_t ms)
 uint8_t in_place_reason(const struct in_place *m, struct latency_monitor_command command)
 {
     uint16_t number = command_number(&command);
-    uint32_t us = command.latency, ms = us / 1000;
+    uint32_t us = command.latency;
     unsigned bucket = 3;
 
     if (!m->enabled)
@@ -229,7 +236,7 @@ uint8_t in_place_reason(const struct in_place *m, struct latency_monitor_command
         return LATENCY_MONITOR_REASON_BELOW_A;
     while (us < m->threshold_us[bucket])
         bucket--;
-    return stamp_reason(m, 3 * bucket + kinds[number] - 1u, ms > UINT16_MAX ? UINT16_MAX : (uint16_t)ms);
+    return stamp_reason(m, 3 * bucket + kinds[number] - 1u, milliseconds(us));
 }
 
 struct latency_monitor_elapsed_answer in_place_elapsed(struct in_place *m, uint32_t ms)

@@ -119,7 +119,7 @@ fn commands() -> Vec<ByHand> {
         }
     }
     // Dataset Management and Write Zeroes have one stamp.
-    let both = start(largest(0)).completion(DEALLOCATE, 7_000).completion(WRITE_ZEROES_DEAC, 7_500);
+    let both = start(largest(0)).completion(DEALLOCATE, 7_000).completion(WRITE_ZEROES_DEAC, 7_000);
     cases.push(case(both.completion(WRITE_ZEROES_DEAC, 8_000).completion(DEALLOCATE, 8_000), "-0505"));
     cases
 }
@@ -478,7 +478,7 @@ fn with_digits(file: Events, digits: &str, counter: usize) -> Events {
         '2' => f.completion(WRITE_ZEROES, 7_000),
         '3' => f.completion(READ, BELOW),
         '4' => f.completion(READ, 8_000),
-        '5' => f.completion(WRITE, 7_500),
+        '5' => f.completion(WRITE, 7_000),
         '6' => f.completion(WRITE, 8_000),
         _ => unreachable!("no such digit"),
     })
@@ -502,7 +502,7 @@ fn beyond_one_block() -> Vec<ByHand> {
     // The other way round, then disabled and enabled, and a byte left over.
     let file = with_digits(carried(none().completion(READ, BELOW), BLOCK - 2), "456023", 2);
     let file = series(file.settings(disabled(base())), READ, &[5_000, 0]).settings(largest(0));
-    let file = filled(file.completion(READ, 5_000), none().completion(READ, 5_999), 4_199).completion(READ, 6_000);
+    let file = filled(file.completion(READ, 5_000), none().completion(READ, 5_000), 4_199).completion(READ, 6_000);
     let asked =
         [from(0, "-00-33"), from(BLOCK - 4, "33456023-11-055"), from(4_197, "550---"), from(2 * BLOCK - 1, "---")];
     cases.push(numbered(file.raw(&[2]), asked.concat()));

@@ -405,8 +405,8 @@ fn check_reasons(reader: &mut Reader) -> Result<(), String> {
     }
     reader.bytes(length)?;
     let questions = reader.u16()?;
-    if questions > MOST_QUESTIONS {
-        return reader.wrong("too many questions");
+    if questions == 0 || questions > MOST_QUESTIONS {
+        return reader.wrong("no questions, or too many");
     }
     for _ in 0..questions {
         let number = reader.padded(NUMBER)?;

@@ -13,7 +13,7 @@ use Rattle.monitor.specs.declared.record.Monitor.{Monitor}
 use Rattle.monitor.specs.History.{found, andThen, orElse, playFrom}
 use Rattle.events.specs.declared.explain.Question.{Question}
 use Rattle.events.specs.Claims.{InParts, joined, OfWholeRecords, ExplainedInParts, RefusedSkipped}
-use Rattle.events.specs.Explain.{Said, bytesBefore, reasonAt, atEnd, numberSaid, explanation, questionOf}
+use Rattle.events.specs.Explain.{Said, bytesBefore, saidAt, atEnd, numberSaid, inputSaid, questionOf}
 use Rattle.events.specs.Explain.{afterPart, partSaid, partsSaid}
 use Rattle.events.specs.Records.{callOf, recordRefusal, acceptedCall, recordAt, wholeRecords, callsBefore}
 use Rattle.events.specs.Records.{acceptedBefore, historyOf, afterRecord}
@@ -25,8 +25,8 @@ module _ (m : Monitor) (s t : List ℕ) (whole : 16 * wholeRecords s ≡ length 
   sum = omega (arith, whole, length-append s t)
 
   -- a record of the first part
-  here : (n : ℕ) → n < wholeRecords s → reasonAt m (s ++ t) n ≡ reasonAt m s n
-  unfolding reasonAt
+  here : (n : ℕ) → n < wholeRecords s → saidAt m (s ++ t) n ≡ saidAt m s n
+  unfolding saidAt
   here n h =
       rw (
         lt-ltb n (wholeRecords s) h,
@@ -48,8 +48,8 @@ module _ (m : Monitor) (s t : List ℕ) (whole : 16 * wholeRecords s ≡ length 
       let bytes : 16 * (wholeRecords s + i) ≡ length s + 16 * i = omega (arith, whole) in
       rw bytes (take-append-add s t (16 * i))
 
-  later : (i : ℕ) → reasonAt m (s ++ t) (wholeRecords s + i) ≡ reasonAt (playFrom m (historyOf s)) t i
-  unfolding reasonAt InParts
+  later : (i : ℕ) → saidAt m (s ++ t) (wholeRecords s + i) ≡ saidAt (playFrom m (historyOf s)) t i
+  unfolding saidAt InParts
   later i =
       let played = in-parts m s (bytesBefore t i) (omega (arith, whole)) in
       rw (shifted i, before-shifted i, ← played, later-record s t whole i)
@@ -59,7 +59,7 @@ two-parts :
     (q : Question) (s t : List ℕ) →
     length s % 16 ≡ 0 →
     partSaid q (s ++ t) ≡ orElse (partSaid q s) (partSaid (afterPart q s) t)
-unfolding afterPart reasonAt
+unfolding afterPart saidAt
 two-parts q s t e = by (ltb (q .before) (wholeRecords s)) refl
   where
     whole : 16 * wholeRecords s ≡ length s
@@ -73,13 +73,13 @@ two-parts q s t e = by (ltb (q .before) (wholeRecords s)) refl
     by false h =
         let passed : wholeRecords s ≤ q .before = ltb-false (q .before) (wholeRecords s) h in
         let split : q .before ≡ wholeRecords s + (q .before - wholeRecords s) = omega arith in
-        ap (λ (k : ℕ). reasonAt (q .monitor) (s ++ t) k) split ∙
+        ap (λ (k : ℕ). saidAt (q .monitor) (s ++ t) k) split ∙
         (later (q .monitor) s t whole (q .before - wholeRecords s) ∙
         (rw (h, take-all (16 * q .before) s (omega (arith, passed, whole)))))
 
 -- nothing is said of a record that a part ends before
 pub ends-before : (q : Question) (s : List ℕ) → partSaid q s ≡ none → wholeRecords s ≤ q .before
-unfolding reasonAt
+unfolding saidAt
 ends-before q s e = by (ltb (q .before) (wholeRecords s)) refl
   where
     by : (t : Bool) → ltb (q .before) (wholeRecords s) ≡ t → wholeRecords s ≤ q .before
@@ -99,7 +99,7 @@ all-parts :
     (parts : List (List ℕ)) (q : Question) →
     OfWholeRecords parts →
     partsSaid q parts ≡ atEnd (partSaid q (joined parts))
-unfolding partsSaid reasonAt
+unfolding partsSaid saidAt
 all-parts [] q whole = rw (le-ltb (q .before) 0 (omega arith))
 all-parts (s ∷ []) q whole = rw (append-nil s)
 all-parts (s ∷ t ∷ parts) q (whole, rest) =
@@ -118,7 +118,7 @@ number-alone input = by (ltb (length input) 4) refl
         rw (e, le-ltb (length (take 4 input)) 4 (omega (arith, length-take 4 input, ltb-false (length input) 4 e)))
 
 pub explained-in-parts : ExplainedInParts
-unfolding ExplainedInParts explanation questionOf
+unfolding ExplainedInParts inputSaid questionOf
 explained-in-parts input parts file whole =
     let all = all-parts parts (questionOf (take 4 input)) whole in
     let four : take 4 (take 4 input) ≡ take 4 input = take-all 4 (take 4 input) (omega (arith, length-take 4 input)) in

@@ -12,7 +12,7 @@ use Rattle.monitor.specs.declared.record.Monitor.{Monitor}
 use Rattle.monitor.specs.Claims.{WithoutAttribute}
 use Rattle.monitor.specs.History.{completion, playFrom, found}
 use Rattle.events.specs.Blocks.{refusedLines}
-use Rattle.events.specs.Explain.{numberSaid, explanation, questionOf, partsSaid}
+use Rattle.events.specs.Explain.{numberSaid, inputSaid, questionOf, partsSaid}
 use Rattle.events.specs.Records.{recordKind, part, unnamed, attribute, callOf, recordAt}
 use Rattle.events.specs.Records.{wholeRecords, callsBefore, acceptedBefore, historyOf}
 
@@ -66,7 +66,7 @@ ExplainedInParts =
     joined parts ≡ drop 4 input →
     OfWholeRecords parts →
     found (partsSaid (questionOf (take 4 input)) parts) (λ said. said) (numberSaid (length (take 4 input))) ≡
-    explanation input
+    inputSaid input
 
 -- 02, Ticket 5: the monitor that is asked is the one that the accepted records alone make: those that are refused are
 -- skipped

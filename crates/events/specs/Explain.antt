@@ -32,17 +32,17 @@ unfoldable pub completionAt : List ℕ → Option Command
 completionAt r = found none (λ (c : Call). completionIn (asked c)) (callOf r)
 
 -- what is said of a record, by the monitor before it
-unfoldable pub recordReason : Monitor → List ℕ → Said
-recordReason m r = found notACompletion (λ c. reason (reasonOf m c)) (completionAt r)
+unfoldable pub recordSaid : Monitor → List ℕ → Said
+recordSaid m r = found notACompletion (λ c. reason (reasonOf m c)) (completionAt r)
 
 -- the bytes of the records before record n
 abbrev pub bytesBefore : List ℕ → ℕ → List ℕ
 bytesBefore s n = take (16 * n) s
 
 -- what is said of record n of a file, if it is there: by the monitor that the records before it leave of m
-unfoldable pub reasonAt : Monitor → List ℕ → ℕ → Option Said
-reasonAt m s n =
-    onlyIf (ltb n (wholeRecords s)) (recordReason (playFrom m (historyOf (bytesBefore s n))) (recordAt s n))
+unfoldable pub saidAt : Monitor → List ℕ → ℕ → Option Said
+saidAt m s n =
+    onlyIf (ltb n (wholeRecords s)) (recordSaid (playFrom m (historyOf (bytesBefore s n))) (recordAt s n))
 
 -- where nothing is said by the end of the input, the record is not there
 abbrev pub atEnd : Option Said → Said
@@ -56,9 +56,9 @@ unfoldable pub numberSaid : (length : ℕ) → Option Said
 numberSaid n = onlyIf (ltb n 4) notACompletion
 
 -- what is said of a whole input, the number and the file; and its line
-unfoldable pub explanation : List ℕ → Said
-explanation input =
-    found (atEnd (reasonAt newMonitor (drop 4 input) (recordNumber input))) (λ said. said) (numberSaid (length input))
+unfoldable pub inputSaid : List ℕ → Said
+inputSaid input =
+    found (atEnd (saidAt newMonitor (drop 4 input) (recordNumber input))) (λ said. said) (numberSaid (length input))
 
 abbrev pub saidLine : Said → List ℕ
 saidLine (reason n) = numberLine n
@@ -77,7 +77,7 @@ afterPart q s =
 
 -- what a part of the file says; nothing, where the record is not in it
 abbrev pub partSaid : Question → List ℕ → Option Said
-partSaid q s = reasonAt (q .monitor) s (q .before)
+partSaid q s = saidAt (q .monitor) s (q .before)
 
 -- what the parts of a file say, read one after the other until one says something
 unfoldable pub partsSaid : Question → List (List ℕ) → Said

@@ -1,5 +1,5 @@
-// Why a completion of an event file does not load a latency stamp (document 02, Ticket 5). The file is read in parts, up
-// to the record that is asked about.
+// Why a completion of an event file does not load a latency stamp (document 02, Ticket 5). The file is read in parts,
+// up to the record that is asked about.
 ghost use mathlib.Core.Bool.{true, false};
 ghost use mathlib.Core.Path.{_≡_};
 ghost use mathlib.Core.Option.{some};
@@ -7,7 +7,7 @@ ghost use Prim.Native.Nat.{_≤_};
 ghost use lib.ListN.{length};
 ghost use Rattle.monitor.specs.History.{found};
 ghost use Rattle.text.specs.Lines.{asLine};
-ghost use Rattle.events.specs.Explain.{recordReason, atEnd, numberSaid, saidLine, questionOf, afterPart, partSaid};
+ghost use Rattle.events.specs.Explain.{recordSaid, atEnd, numberSaid, saidLine, questionOf, afterPart, partSaid};
 ghost use Rattle.events.specs.Explain.{saysExplained};
 use crate::blocks;
 use crate::files;
@@ -21,7 +21,8 @@ const NUMBER: usize = 4;
 // The refusal of a number that is not whole, or that no completion has.
 const NOT_A_COMPLETION: u8 = 16;
 
-// A record that is asked about: the monitor that the records so far have left, and how many are still to come before it.
+// A record that is asked about: the monitor that the records so far have left, and how many are still to come before
+// it.
 pub struct Question {
     pub monitor: Monitor,
     pub before: u32,
@@ -56,7 +57,7 @@ fn number_said(n: usize) -> Explained
 // What is said of a record, by the monitor before it.
 fn record_said(m: Monitor, r: &[u8]) -> Explained
     requires { ⌜ length (now r) ≡ 16 ⌝ }
-    ensures { λ e. ⌜ saysExplained e ≡ some (recordReason m (now (r .entry))) ⌝ }
+    ensures { λ e. ⌜ saysExplained e ≡ some (recordSaid m (now (r .entry))) ⌝ }
 {
     if records::is_completion(r) {
         let reason = m.reason(records::command(r));
@@ -79,7 +80,8 @@ impl Question {
         Explanation { next, said }
     }
 
-    // The next part of the file: whole records, and in the last part what is left over.
+    // The next part of the file: whole records, and in the last part what is left over. Once something is said the
+    // question is answered, and there is nothing to go on with.
     pub fn read(self, s: &[u8]) -> Explanation
         ensures next { λ r. ⌜ r .next ≡ afterPart self (now (s .entry)) ⌝ }
         ensures said { λ r. ⌜ saysExplained (r .said) ≡ partSaid self (now (s .entry)) ⌝ }

@@ -79,24 +79,45 @@ pub fn run(m: Monitor, s: &[u8]) -> Stop
     Stop { monitor, halt }
 }
 
-// All whole records of a slice; those that are refused are passed over.
+// All whole records of a slice; those that are refused are passed over. Completions without a counter, and elapsed time
+// that ends no window, change few fields, and these alone are written, for speed.
 pub fn replay(m: Monitor, s: &[u8]) -> Monitor
     ensures { λ r. ⌜ r ≡ playFrom m (historyOf (now (s .entry))) ⌝ }
 {
     let mut monitor = m;
     let mut i = 0;
-    loop {
+    while i < s.len() / records::RECORD {
         let from = records::RECORD * i;
-        let stop = run(monitor, &s[from..]);
-        monitor = stop.monitor;
-        let halt = stop.halt;
-        match halt {
-            Halt::Refused { index, number: _ } => {
-                i = i + index + 1;
+        let r = &s[from..from + records::RECORD];
+        if records::is_completion(r) {
+            let c = records::command(r);
+            let settings = monitor.settings;
+            if c.counter(settings) == NOT_COUNTED {
+                let active = monitor.active_below_a;
+                let counts = c.counts_below_a(settings, active);
+                monitor.active_below_a = counts;
+                i += 1;
+            } else {
+                let o = monitor.completion(c);
+                monitor = o.next;
+                i += 1;
             }
-            Halt::End => {
-                break;
+        } else if records::is_elapsed(r) {
+            let p = records::passed(monitor, r);
+            if p.alone {
+                monitor.clock = p.clock;
+                monitor.timer = p.timer;
+                monitor.partial = p.partial;
+                i += 1;
+            } else {
+                let o = records::elapsed(monitor, r);
+                monitor = o.next;
+                i += 1;
             }
+        } else {
+            let o = records::other(monitor, r);
+            monitor = o.next;
+            i += 1;
         }
     }
     monitor

@@ -5,14 +5,15 @@ ghost use Prim.Native.Nat.{_+_, _≤_};
 ghost use lib.ListN.{length, replicate};
 ghost use Rattle.endian.specs.Bytes.{anySet};
 ghost use Rattle.monitor.specs.Answers.{saysAnswer, saysElapsed, refused};
-ghost use Rattle.monitor.specs.Record.{afterSettings, settingsAnswer};
+ghost use Rattle.monitor.specs.Record.{afterSettings, settingsAnswer, passedBy};
 ghost use Rattle.events.specs.Records.{unnamed, settingsBytes, commandOf, isCompletion, isElapsed};
-ghost use Rattle.events.specs.Records.{afterRecord, recordAnswer};
+ghost use Rattle.events.specs.Records.{elapsedOf, afterRecord, recordAnswer};
 use monitor::Answer;
 use monitor::Command;
 use monitor::ElapsedOutcome;
 use monitor::Monitor;
 use monitor::Outcome;
+use monitor::Passed;
 
 // The bytes of a record.
 pub const RECORD: usize = 16;
@@ -120,6 +121,14 @@ pub(crate) fn elapsed(m: Monitor, r: &[u8]) -> ElapsedOutcome
     ensures answer { λ o. ⌜ saysElapsed (o .answer) ≡ recordAnswer m (now (r .entry)) ⌝ }
 {
     m.elapsed(endian::load(&r[4..8]) as u32)
+}
+
+// What that time makes of the clock and the timer.
+pub(crate) fn passed(m: Monitor, r: &[u8]) -> Passed
+    requires { ⌜ length (now r) ≡ 16 ⌝ }
+    ensures { λ p. ⌜ p ≡ passedBy m (elapsedOf (now (r .entry))) ⌝ }
+{
+    m.passed(endian::load(&r[4..8]) as u32)
 }
 
 // No call.

@@ -149,8 +149,8 @@ pub extern "C" fn latency_monitor_static_below_a(m: &Monitor) -> PlainBelowA
     answers::static_below_a(*m)
 }
 
-// Why a completed command would not load a latency stamp, were it brought to the record now: the lowest reason, 1 to 6, or
-// 0 where it would.
+// Why a completed command would not load a latency stamp, were it brought to the record now: the lowest reason, 1 to 6,
+// or 0 where it would.
 #[no_mangle]
 pub extern "C" fn latency_monitor_reason(m: &Monitor, c: Command) -> u8
     ensures { λ r. ⌜ r ≡ reasonOf (now (m .entry)) c ⌝ }

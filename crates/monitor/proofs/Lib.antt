@@ -1,3 +1,4 @@
 pub mod histories
 pub mod Edges
 pub mod Counters
+pub mod Time

@@ -47,15 +47,15 @@ isSet m n = not (eqb (getD (m .«active_window» .stamps) n 0) unset)
 abbrev inLargest : Monitor → ℕ → Bool
 inLargest m n = bit (m .settings .mode) n
 
--- 4: mode first with a stamp set
+-- 4: the stamp is set, and mode first keeps it
 abbrev pub setInFirst : CounterReason
 setInFirst m ms n = isSet m n && not (inLargest m n)
 
--- 5: not larger, in mode largest with a stamp set
+-- 5: the stamp is set, in mode largest, and the ms are no more than those measured
 abbrev pub notLarger : CounterReason
 notLarger m ms n = (isSet m n && inLargest m n) && not (larger (getD (m .«active_window» .latencies) n 0) ms)
 
--- 6: within the minimum window, in mode largest with a stamp set
+-- 6: the stamp is set, in mode largest, and the minimum window is not over since its load
 abbrev pub withinMinimum : CounterReason
 withinMinimum m ms n =
     (isSet m n && inLargest m n) && not (waited (sinceLoad m n) (m .settings .«minimum_window»))

@@ -94,7 +94,8 @@ pub(crate) fn larger(latency: u16, ms: u16) -> bool
     latency < ms
 }
 
-// Whether at least the minimum window has passed since the last load. `loaded` and `time` are times in the active window.
+// Whether at least the minimum window has passed since the last load. `loaded` and `time` are times in the active
+// window.
 pub(crate) fn waited(loaded: u64, time: u64, minimum: u8) -> bool
     ensures { λ r. ⌜ r ≡ waited (time - loaded) minimum ⌝ }
 {

@@ -18,4 +18,5 @@ pub use record::CompletionOutcome;
 pub use record::ElapsedOutcome;
 pub use record::Monitor;
 pub use record::Outcome;
+pub use record::Passed;
 pub use report::WindowChoice;

@@ -21,9 +21,10 @@ const BELOW_A: u8 = 3;
 // The stamp is set, in mode first.
 const SET_IN_FIRST: u8 = 4;
 
-// The stamp is set, in mode largest: the latency is not larger, or the minimum window is not over.
+// The stamp is set, in mode largest, and the latency is not larger.
 const NOT_LARGER: u8 = 5;
 
+// The stamp is set, in mode largest, and the minimum window is not over.
 const WITHIN_MINIMUM: u8 = 6;
 
 impl Monitor {

@@ -42,7 +42,7 @@ fn prints(file: &[u8], number: &[u8], expected: &[u8]) -> bool {
     let line = events::explained_line(explained(file, number));
     let bytes = line.bytes;
     let len = line.len;
-    compare::holds(&bytes[..len], expected, 0)
+    compare::holds(&bytes[..len], expected, 0) & (len == expected.len())
 }
 
 // A byte as a length.

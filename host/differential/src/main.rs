@@ -24,7 +24,7 @@ use tally::Tally;
 const SEEDS: u64 = 100_000;
 /// More than one, so that calls run at the same time.
 const THREADS: usize = 4;
-/// Reasons that are asked for after each call.
+/// Reasons that are asked for after each call of a drawn history.
 const QUESTIONS: usize = 2;
 
 fn main() -> ExitCode {

@@ -71,10 +71,10 @@ fn around_the_end(settings: Settings, command: Command) -> Vec<Call> {
         Call::Settings(settings.to_buffer()),
         completion(7_000),
         Call::Elapsed(over.saturating_sub(1)),
-        completion(7_999),
+        completion(7_000),
         completion(8_000),
         Call::Elapsed(over.min(1)),
-        completion(7_999),
+        completion(7_000),
         completion(8_000),
     ]
 }

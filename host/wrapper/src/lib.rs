@@ -151,7 +151,7 @@ impl Monitor {
     ///
     /// let mut monitor = Monitor::new();
     /// monitor.configure(&settings)?;
-    /// let read = Command { opcode: 0x02, deallocate: false, latency: 7_500 };
+    /// let read = Command { opcode: 0x02, deallocate: false, latency: 7_000 };
     /// assert_eq!(monitor.reason(read), None);
     /// monitor.completion(read);
     /// assert_eq!(monitor.reason(read), Some(Reason::NotLarger));

@@ -3,7 +3,7 @@
 use latency_monitor::{offsets, Command, CompletionAnswer, ElapsedAnswer, Monitor, Reason, SETTINGS_LENGTH};
 
 /// In bucket 0 of these thresholds, 7 ms.
-const READ: Command = Command { opcode: 0x02, deallocate: false, latency: 7_500 };
+const READ: Command = Command { opcode: 0x02, deallocate: false, latency: 7_000 };
 const SLOWER: Command = Command { latency: 8_000, ..READ };
 const BELOW_A: Command = Command { latency: 4_999, ..READ };
 const OTHER: Command = Command { opcode: 0x09, ..READ };
@@ -61,13 +61,13 @@ fn disabled_comes_before_all_others() {
 #[test]
 fn opcode_and_attribute() {
     let monitor = enabled(FIRST);
-    for latency in [0, 7_500] {
+    for latency in [0, 7_000] {
         for (opcode, deallocate) in [(0x09, false), (0x08, false), (0x00, true), (0xFF, false)] {
             assert_reason(&monitor, Command { opcode, deallocate, latency }, Some(Reason::OfNoKind));
         }
     }
     for (opcode, deallocate) in [(0x02, true), (0x01, false), (0x09, true), (0x08, true)] {
-        assert_reason(&monitor, Command { opcode, deallocate, latency: 7_500 }, None);
+        assert_reason(&monitor, Command { opcode, deallocate, latency: 7_000 }, None);
     }
 }
 

@@ -15,7 +15,7 @@ use Rattle.monitor.specs.History.{Call, settings, completion, elapsed, clock, p
 use Rattle.monitor.specs.Reasons.{reasonOf}
 use Rattle.monitor.specs.Record.{newMonitor}
 use Rattle.events.specs.declared.explain.Question.{Question}
-use Rattle.events.specs.Explain.{reason, notACompletion, completionAt, recordReason, bytesBefore, reasonAt}
+use Rattle.events.specs.Explain.{reason, notACompletion, completionAt, recordSaid, bytesBefore, saidAt}
 use Rattle.events.specs.Explain.{recordNumber, numberSaid, questionOf, afterPart, partSaid}
 use Rattle.events.specs.Records.{recordKind, attribute, unnamed, settingsBytes, commandOf, completionOf, elapsedOf}
 use Rattle.events.specs.Records.{clockOf, callOfKind, callOf, isCompletion, recordAt, wholeRecords, historyOf}
@@ -42,8 +42,8 @@ asks bytes m n is-new is-number = rw (is-new, is-number)
 pub completion-said :
     (m : Monitor) (r : List ℕ) (c : Command) →
     callOf r ≡ some (completion c) →
-    reason (reasonOf m c) ≡ recordReason m r
-unfolding recordReason completionAt
+    reason (reasonOf m c) ≡ recordSaid m r
+unfolding recordSaid completionAt
 completion-said m r c e = rw e
 
 -- a record that is none
@@ -82,8 +82,8 @@ module _ (r : List ℕ) (sixteen : length r ≡ 16) (is-none : isCompletion r �
       by true false set c o h e = refl
       by false few set c o h e = e
 
-  pub other-said : (m : Monitor) → notACompletion ≡ recordReason m r
-  unfolding recordReason
+  pub other-said : (m : Monitor) → notACompletion ≡ recordSaid m r
+  unfolding recordSaid
   other-said m = rw no-completion
 
 -- a part that has the record, and one that has not
@@ -91,8 +91,8 @@ module _ (q : Question) (s : List ℕ) (m : Monitor) (played : m ≡ playFrom (q
   pub part-reached :
       q .before < wholeRecords s →
       (_≡_ {A = Question} (record { monitor = m; before = 0 }) (afterPart q s)) ×
-      (some (recordReason m (recordAt s (q .before))) ≡ partSaid q s)
-  unfolding afterPart reasonAt
+      (some (recordSaid m (recordAt s (q .before))) ≡ partSaid q s)
+  unfolding afterPart saidAt
   part-reached h =
       let none-left : q .before - wholeRecords s ≡ 0 = omega arith in
       (rw (none-left, played), rw (lt-ltb (q .before) (wholeRecords s) h, played))
@@ -101,5 +101,5 @@ module _ (q : Question) (s : List ℕ) (m : Monitor) (played : m ≡ playFrom (q
       wholeRecords s ≤ q .before →
       (_≡_ {A = Question} (record { monitor = m; before = q .before - wholeRecords s }) (afterPart q s)) ×
       (none ≡ partSaid q s)
-  unfolding afterPart reasonAt
+  unfolding afterPart saidAt
   part-passed h = (rw played, rw (le-ltb (q .before) (wholeRecords s) h))

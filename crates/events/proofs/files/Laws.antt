@@ -216,6 +216,28 @@ module _ (m : Monitor) (s : List ℕ) (monitor next : Monitor) (i : ℕ) where
       let sum : i + wholeRecords t ≡ wholeRecords s = omega (arith, length-drop (16 * i) s) in
       (rw (all, played) at en) ∙ (rw sum at (composed m s i (wholeRecords t)))
 
+-- record by record: one more, whatever its call answers; and the last
+pub one-more :
+    (m : Monitor) (s : List ℕ) (monitor next : Monitor) (i : ℕ) (r : List ℕ) →
+    Replayed m s monitor i →
+    r ≡ recordAt s i →
+    next ≡ afterRecord monitor r →
+    i < wholeRecords s →
+    Replayed m s next (i + 1)
+unfolding callsBefore afterRecord
+one-more m s monitor next i r (le, played) er en h =
+    rw (add-one i) (omega arith, rw (en, er, played) (then-one m (callsBefore s i) (callOf (recordAt s i))))
+
+pub last-one :
+    (m : Monitor) (s : List ℕ) (monitor : Monitor) (i : ℕ) →
+    Replayed m s monitor i →
+    wholeRecords s ≤ i →
+    monitor ≡ playFrom m (historyOf s)
+unfolding historyOf
+last-one m s monitor i (le, played) h =
+    let all : i ≡ wholeRecords s = omega arith in
+    rw (← all) played
+
 -- the end of a file of n bytes
 pub whole : (n : ℕ) → n % 16 ≡ 0 → done ≡ unlessRefused (endRefusal n) done
 unfolding endRefusal

@@ -19,18 +19,20 @@ use Rattle.endian.specs.Bytes.{anySet}
 use Rattle.endian.specs.Loads.{number}
 use Rattle.endian.proofs.Numbers.{below, both-clear, first-set}
 use Rattle.monitor.proofs.Counters.{no-counter, uncounted}
+use Rattle.monitor.proofs.Time.{withTime, time-alone}
 use Rattle.monitor.proofs.answers.ElapsedAnswer.{the-type}
 use Rattle.monitor.specs.declared.answers.ElapsedAnswer.{ElapsedAnswer}
 use Rattle.monitor.specs.declared.answers.ElapsedAnswer.the-variants as time
 use Rattle.monitor.specs.declared.commands.Command.{Command}
 use Rattle.monitor.specs.declared.record.Monitor.{Monitor}
+use Rattle.monitor.specs.declared.record.Passed.{Passed}
 use Rattle.monitor.specs.Answers.{CallAnswer, refused, done, notCounted, counted, ended, byKind, unlessRefused}
 use Rattle.monitor.specs.Answers.{saysElapsed}
 use Rattle.monitor.specs.Commands.{counterNumber, counterOf, belowAOf}
 use Rattle.monitor.specs.Counting.{countedBelowA}
 use Rattle.monitor.specs.History.{Call, settings, completion, elapsed, clock, powerUp, page, settingsBack}
 use Rattle.monitor.specs.History.{belowA, after, answerOf, playFrom, refusalOf, found}
-use Rattle.monitor.specs.Record.{withBelowA, settingsAnswer, completionAnswer, elapsedAnswer, clockAnswer}
+use Rattle.monitor.specs.Record.{withBelowA, passedBy, settingsAnswer, completionAnswer, elapsedAnswer, clockAnswer}
 use Rattle.monitor.specs.Refusals.{settingsRefusal, elapsedRefusal, clockRefusal, pageRefusal, settingsBackRefusal}
 use Rattle.monitor.specs.Report.{pageAnswer, settingsBackAnswer}
 use Rattle.events.specs.Records.{recordKind, part, unnamed, settingsBytes, commandOf, elapsedOf, clockOf, callOfKind}
@@ -291,6 +293,20 @@ pub spared :
 unfolding afterRecord playFrom
 spared m r c n counts e number twelve more =
     rw e (uncounted m c counts (no-counter (m .settings) c n number (omega arith)) more .0)
+
+-- elapsed time that ends no window changes the clock and the timer alone
+pub time-passed :
+    (m : Monitor) (r : List ℕ) (p : Passed) →
+    length r ≡ 16 →
+    isElapsed r ≡ true →
+    p ≡ passedBy m (elapsedOf r) →
+    p .alone ≡ true →
+    withTime m p ≡ afterRecord m r
+unfolding afterRecord playFrom callOfKind isElapsed
+time-passed m r p sixteen is e alone =
+    let kind = is-kind r sixteen 3 (unnamed 1 4 8 r) is in
+    let call = known-call r sixteen 3 (unnamed 1 4 8 r) (elapsed (elapsedOf r)) refl (kind .0) (kind .1) in
+    rw (call, e) (time-alone m (elapsedOf r) (rw e at alone))
 
 -- the refusal that an answer names
 abbrev pub refusalIn : CallAnswer → Option ℕ
