@@ -6,7 +6,7 @@
 set -euo pipefail
 top=$(cd "$(dirname "$0")/.." && pwd)
 archive=$top/target/staticlib/liblatency_monitor.a
-programs=("$top"/target/bin/{page,listing,vectors})
+programs=("$top"/target/bin/{page,listing,explain,vectors})
 
 folder=$(mktemp -d)
 trap 'rm -rf "$folder"' EXIT
@@ -41,7 +41,7 @@ constants() {
 
 printf '| Bytes     | archive |   C -O2 |   C -O3 |'
 printf ' %7s |' "${programs[@]##*/}"
-printf '\n|---|---|---|---|---|---|---|\n'
+printf '\n|---|---|---|---|---|---|---|---|\n'
 row code '^[.]text'
 row constants '^[.]rodata'
 row data '^[.]t?(data|bss)'

@@ -40,8 +40,10 @@ module _ (m : Monitor) (s t : List ℕ) (whole : 16 * wholeRecords s ≡ length 
   shifted i = by (ltb i (wholeRecords t)) refl
     where
       by : (b : Bool) → ltb i (wholeRecords t) ≡ b → ltb (wholeRecords s + i) (wholeRecords (s ++ t)) ≡ b
-      by true e = lt-ltb (wholeRecords s + i) (wholeRecords (s ++ t)) (omega (arith, sum, ltb-true i (wholeRecords t) e))
-      by false e = le-ltb (wholeRecords s + i) (wholeRecords (s ++ t)) (omega (arith, sum, ltb-false i (wholeRecords t) e))
+      by true e =
+          lt-ltb (wholeRecords s + i) (wholeRecords (s ++ t)) (omega (arith, sum, ltb-true i (wholeRecords t) e))
+      by false e =
+          le-ltb (wholeRecords s + i) (wholeRecords (s ++ t)) (omega (arith, sum, ltb-false i (wholeRecords t) e))
 
   before-shifted : (i : ℕ) → bytesBefore (s ++ t) (wholeRecords s + i) ≡ s ++ bytesBefore t i
   before-shifted i =

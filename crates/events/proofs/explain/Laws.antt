@@ -50,7 +50,10 @@ completion-said m r c e = rw e
 abbrev inCall : Option Call → Option Command
 inCall o = found none (λ (c : Call). completionIn (asked c)) o
 
-unless-set : (bytes : List ℕ) (c : Call) → completionIn (asked c) ≡ none → inCall (cond (anySet bytes) none (some c)) ≡ none
+unless-set :
+    (bytes : List ℕ) (c : Call) →
+    completionIn (asked c) ≡ none →
+    inCall (cond (anySet bytes) none (some c)) ≡ none
 unless-set bytes c e = by (anySet bytes)
   where
     by : (t : Bool) → inCall (cond t none (some c)) ≡ none
@@ -87,7 +90,9 @@ module _ (r : List ℕ) (sixteen : length r ≡ 16) (is-none : isCompletion r �
   other-said m = rw no-completion
 
 -- a part that has the record, and one that has not
-module _ (q : Question) (s : List ℕ) (m : Monitor) (played : m ≡ playFrom (q .monitor) (historyOf (bytesBefore s (q .before)))) where
+module _
+    (q : Question) (s : List ℕ) (m : Monitor)
+    (played : m ≡ playFrom (q .monitor) (historyOf (bytesBefore s (q .before)))) where
   pub part-reached :
       q .before < wholeRecords s →
       (_≡_ {A = Question} (record { monitor = m; before = 0 }) (afterPart q s)) ×
