@@ -4,6 +4,7 @@ use crate::below_a;
 use crate::deallocate;
 use crate::events::{unnamed, Events, Preset, RECORD};
 use crate::history::{Command, Settings, TIMESTAMP_TOP};
+use crate::order;
 use crate::pages;
 use crate::questions;
 use crate::random::Random;
@@ -44,6 +45,8 @@ pub fn groups() -> Vec<Group> {
         event_vectors("counters at their top", counters_at_their_top()),
         event_vectors("below threshold a", below_a::vectors()),
         events("deallocate attribute", deallocate::files()),
+        events("orders with different pages", order::different().concat()),
+        events("orders with one page", order::alike().concat()),
     ];
     groups.extend(questions::groups());
     groups.extend([

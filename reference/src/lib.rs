@@ -8,6 +8,7 @@ pub mod facts;
 pub mod groups;
 pub mod history;
 pub mod mixed;
+pub mod order;
 pub mod page;
 pub mod pages;
 pub mod questions;

@@ -6,6 +6,7 @@ use crate::groups::{
     WRITE_ZEROES_DEAC,
 };
 use crate::history::{accepted_elapsed, accepted_settings, refusal, Call, Command, Settings, Window, INCREMENT_MS};
+use crate::order::{self, completions as random_completions, shuffled, Completion};
 use crate::page::{page, page_bytes, settings_back};
 use crate::pages;
 use crate::questions::{self, close_mixture};
@@ -502,6 +503,83 @@ fn no_deallocate_without_attribute() {
     }
     // With it each of the ten counts is above zero somewhere.
     assert!(counted.iter().flatten().all(|&sum| sum > 0));
+}
+
+/// Two event files with the same calls, completions alone in another order.
+fn rearranged(files: [&Events; 2]) -> bool {
+    let [mut a, mut b] = files.map(|file| file.0.chunks_exact(16).collect::<Vec<_>>());
+    let others_in_place = a.iter().zip(&b).all(|(a, b)| a[0] == 2 && b[0] == 2 || a == b);
+    a.sort();
+    b.sort();
+    others_in_place && a == b
+}
+
+#[test]
+fn orders_with_different_pages() {
+    let pairs = order::different();
+    // The measured latency of the Reads in bucket A, and their stamp.
+    let expected = [[(5, 77), (6, 77)], [(5, 77), (6, 77)], [(6, 78), (6, 77)], [(6, 77), (6, 77)]];
+    assert_eq!(pairs.len(), expected.len());
+    for (files, expected) in pairs.iter().zip(expected) {
+        assert!(rearranged(files.each_ref()));
+        let pages = files.clone().map(page_of);
+        assert_ne!(pages[0], pages[1]);
+        assert_eq!(pages.map(|page| (number(&page, 214, 2), number(&page, 184, 8))), expected);
+    }
+    // The last two pages differ in the debug log's measured latency alone.
+    let [first, second] = pairs.last().unwrap().clone().map(page_of);
+    let places = (0..512).filter(|&place| first[place] != second[place]);
+    assert_eq!(places.map(|place| (place, first[place], second[place])).collect::<Vec<_>>(), [(450, 5, 6)]);
+}
+
+#[test]
+fn orders_with_one_page() {
+    for files in order::alike() {
+        let [first, others @ ..] = &files;
+        for other in others {
+            assert!(rearranged([first, other]) && first.0 != other.0);
+            assert_eq!(facts_of(other.clone()), facts_of(first.clone()));
+        }
+    }
+}
+
+/// A history with mode largest and no minimum window in its settings.
+fn with_largest(history: &[Call]) -> Vec<Call> {
+    let changed = |call: &Call| match call {
+        Call::Settings(bytes) if bytes.len() > 8 => {
+            let mut bytes = bytes.clone();
+            bytes[6..9].copy_from_slice(&[0xFF, 0x0F, 0]);
+            Call::Settings(bytes)
+        }
+        _ => call.clone(),
+    };
+    history.iter().map(changed).collect()
+}
+
+/// The facts after a history, these completions and further calls.
+fn facts_after(history: &[Call], order: &[Completion], further: &[Call]) -> Facts {
+    let completions = order.iter().map(|&(command, latency_us)| Call::Completion { command, latency_us });
+    facts(&history.iter().cloned().chain(completions).chain(further.iter().cloned()).collect::<Vec<_>>())
+}
+
+/// After any history and before any other, with mode largest and no minimum window, the order of completions shows in
+/// the debug log alone; with other settings it shows in the windows too.
+#[test]
+fn completions_in_any_order() {
+    let mut random = Random::new(29);
+    let [mut logs, mut windows] = [0, 0];
+    let histories = random_histories(30);
+    for (history, further) in histories.iter().zip(histories.iter().rev()) {
+        let completions = random_completions(&mut random);
+        let order = shuffled(&mut random, &completions);
+        let with = with_largest(history);
+        let [first, second] = [&completions, &order].map(|order| facts_after(&with, order, further));
+        logs += usize::from(first.debug_log != second.debug_log);
+        assert_eq!(Facts { debug_log: None, ..first }, Facts { debug_log: None, ..second });
+        let [first, second] = [&completions, &order].map(|order| facts_after(history, order, &[]).active_window);
+        windows += usize::from(first != second);
+    }
+    assert!(logs > 0 && windows > 0);
 }
 
 /// What the reference writes it reads back as the facts behind it, but for the discard byte and the counts below A.

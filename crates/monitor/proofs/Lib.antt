@@ -2,3 +2,4 @@ pub mod histories
 pub mod Edges
 pub mod Counters
 pub mod Time
+pub mod Order

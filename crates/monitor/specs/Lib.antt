@@ -11,3 +11,4 @@ pub mod Reasons
 pub mod Facts
 pub mod Edges
 pub mod Claims
+pub mod Order

@@ -1,0 +1,60 @@
+-- 02, Ticket 6: completions with no other call among them, in any order.
+use mathlib.Core.Path.{_≡_}
+use mathlib.Core.Bool.{true}
+use mathlib.Core.List.{List, map, Perm}
+use Prim.Native.Nat.{ℕ, _<_}
+use Rattle.logpage.specs.Fields.{unset, noDebugLog}
+use Rattle.logpage.specs.declared.Settings.{Settings}
+use Rattle.monitor.specs.declared.commands.Command.{Command}
+use Rattle.monitor.specs.declared.record.Monitor.{Monitor}
+use Rattle.monitor.specs.Counting.{bit}
+use Rattle.monitor.specs.Facts.{inForce}
+use Rattle.monitor.specs.History.{Call, completion, History, pastOf, after, playFrom, play}
+
+-- mode largest for all twelve counters, and no minimum window
+pub record LargestAtOnce (s : Settings) : Type 0 where
+  pub largest : (n : ℕ) → n < 12 → bit (s .mode) n ≡ true
+  pub no-minimum : s .«minimum_window» ≡ 0
+
+-- the record after these completions, the last of the list first, as in a history
+abbrev pub afterCompletions : Monitor → List Command → Monitor
+afterCompletions m cs = playFrom m (map completion cs)
+
+-- a record but for its debug log, which goes to the first completion that triggers it
+abbrev pub withoutDebug : Monitor → Monitor
+withoutDebug m =
+    record {
+      settings = m .settings;
+      clock = m .clock;
+      «host_set» = m .«host_set»;
+      timer = m .timer;
+      partial = m .partial;
+      «active_window» = m .«active_window»;
+      loaded = m .loaded;
+      «active_below_a» = m .«active_below_a»;
+      «static_window» = m .«static_window»;
+      «static_below_a» = m .«static_below_a»;
+      debug = noDebugLog;
+    }
+
+-- Completions and a rearrangement of them leave the same of a record but for the debug log, so the same active window
+-- and counts below threshold A. The clock is not the value of an unset stamp
+abbrev pub InAnyOrder : Type 0
+InAnyOrder =
+    (m : Monitor) (cs ds : List Command) →
+    LargestAtOnce (m .settings) →
+    m .clock < unset →
+    Perm cs ds →
+    withoutDebug (afterCompletions m cs) ≡ withoutDebug (afterCompletions m ds)
+
+-- so after any history: its clock never has that value
+abbrev pub InAnyOrderAfterHistory : Type 0
+InAnyOrderAfterHistory =
+    (h : History) (cs ds : List Command) →
+    LargestAtOnce (inForce (pastOf h)) →
+    Perm cs ds →
+    withoutDebug (afterCompletions (play h) cs) ≡ withoutDebug (afterCompletions (play h) ds)
+
+-- What a call leaves of all else does not depend on the debug log, so no later call tells two orders apart but by it
+abbrev pub DebugLeftOut : Type 0
+DebugLeftOut = (m : Monitor) (c : Call) → withoutDebug (after c m) ≡ withoutDebug (after c (withoutDebug m))
