@@ -46,7 +46,7 @@ pub fn groups() -> Vec<Group> {
         event_vectors("below threshold a", below_a::vectors()),
         events("deallocate attribute", deallocate::files()),
         events("orders with different pages", order::different().concat()),
-        events("orders with one page", order::alike().concat()),
+        event_vectors("orders with one page", order::alike().into_iter().flatten().collect()),
     ];
     groups.extend(questions::groups());
     groups.extend([

@@ -1,19 +1,19 @@
 use crate::answers::{answer, answers, Answer};
-use crate::events::{printed, read, record_answers, Events, Preset, Refused};
-use crate::facts::{all_completions, facts, in_force, Facts, BELOW_A};
+use crate::events::{printed, read, record_answers, Events, Preset, Refused, RECORD};
+use crate::facts::{all_completions, facts, in_force, Event, Facts, BELOW_A};
 use crate::groups::{
     each_kind, example, groups, random_mixture, BELOW, DATASET_MANAGEMENT, DEALLOCATE, READ, WRITE_ZEROES,
     WRITE_ZEROES_DEAC,
 };
 use crate::history::{accepted_elapsed, accepted_settings, refusal, Call, Command, Settings, Window, INCREMENT_MS};
-use crate::order::{self, completions as random_completions, shuffled, Completion};
+use crate::order::{self, random_completions, shuffled, Timed};
 use crate::page::{page, page_bytes, settings_back};
 use crate::pages;
 use crate::questions::{self, close_mixture};
 use crate::random::Random;
 use crate::reading::{listing, read_page, zero_places};
 use crate::reasons::{applying, explained, reason, reasons, EventFile};
-use crate::vectors::{self, Group, ReasonsVector, Vectors, LONGEST_FILE, MOST_QUESTIONS};
+use crate::vectors::{self, EventVector, Group, ReasonsVector, Vectors, LONGEST_FILE, MOST_QUESTIONS};
 
 /// The commands that count, each as its opcode, its attribute or bit, and its kind.
 const COUNTED: [(u8, bool, usize); 6] =
@@ -506,22 +506,22 @@ fn no_deallocate_without_attribute() {
 }
 
 /// Two event files with the same calls, completions alone in another order.
-fn rearranged(files: [&Events; 2]) -> bool {
-    let [mut a, mut b] = files.map(|file| file.0.chunks_exact(16).collect::<Vec<_>>());
+fn rearranged(files: [&[u8]; 2]) -> bool {
+    let [mut a, mut b] = files.map(|file| file.chunks_exact(RECORD).collect::<Vec<_>>());
     let others_in_place = a.iter().zip(&b).all(|(a, b)| a[0] == 2 && b[0] == 2 || a == b);
     a.sort();
     b.sort();
-    others_in_place && a == b
+    files[0] != files[1] && others_in_place && a == b
 }
 
 #[test]
 fn orders_with_different_pages() {
     let pairs = order::different();
-    // The measured latency of the Reads in bucket A, and their stamp.
+    // The measured latency of the Reads in bucket 0, and their stamp.
     let expected = [[(5, 77), (6, 77)], [(5, 77), (6, 77)], [(6, 78), (6, 77)], [(6, 77), (6, 77)]];
     assert_eq!(pairs.len(), expected.len());
     for (files, expected) in pairs.iter().zip(expected) {
-        assert!(rearranged(files.each_ref()));
+        assert!(rearranged(files.each_ref().map(|file| &file.0[..])));
         let pages = files.clone().map(page_of);
         assert_ne!(pages[0], pages[1]);
         assert_eq!(pages.map(|page| (number(&page, 214, 2), number(&page, 184, 8))), expected);
@@ -534,19 +534,22 @@ fn orders_with_different_pages() {
 
 #[test]
 fn orders_with_one_page() {
-    for files in order::alike() {
-        let [first, others @ ..] = &files;
+    for vectors in order::alike() {
+        let [first, others @ ..] = &vectors;
+        let facts = |vector: &EventVector| facts(&read(&vector.file, &vector.presets).0);
         for other in others {
-            assert!(rearranged([first, other]) && first.0 != other.0);
-            assert_eq!(facts_of(other.clone()), facts_of(first.clone()));
+            assert!(rearranged([&first.file, &other.file]));
+            assert_eq!(facts(other), facts(first));
         }
+        // Each kind was fast too.
+        assert!(below_a(&facts(first)).iter().any(|counts| counts.iter().all(|&count| count > 0)));
     }
 }
 
 /// A history with mode largest and no minimum window in its settings.
 fn with_largest(history: &[Call]) -> Vec<Call> {
     let changed = |call: &Call| match call {
-        Call::Settings(bytes) if bytes.len() > 8 => {
+        Call::Settings(bytes) => {
             let mut bytes = bytes.clone();
             bytes[6..9].copy_from_slice(&[0xFF, 0x0F, 0]);
             Call::Settings(bytes)
@@ -556,30 +559,38 @@ fn with_largest(history: &[Call]) -> Vec<Call> {
     history.iter().map(changed).collect()
 }
 
-/// The facts after a history, these completions and further calls.
-fn facts_after(history: &[Call], order: &[Completion], further: &[Call]) -> Facts {
+/// The facts after a history, these completions and further calls, but for the debug log; and the debug log.
+fn facts_after(history: &[Call], order: &[Timed], further: &[Call]) -> (Facts, Option<(usize, Event)>) {
     let completions = order.iter().map(|&(command, latency_us)| Call::Completion { command, latency_us });
-    facts(&history.iter().cloned().chain(completions).chain(further.iter().cloned()).collect::<Vec<_>>())
+    let calls: Vec<Call> = history.iter().cloned().chain(completions).chain(further.iter().cloned()).collect();
+    let mut facts = facts(&calls);
+    let debug_log = facts.debug_log.take();
+    (facts, debug_log)
 }
 
-/// After any history and before any other, with mode largest and no minimum window, the order of completions shows in
-/// the debug log alone; with other settings it shows in the windows too.
+/// After any history, with mode largest and no minimum window, the order of completions shows in the debug log alone,
+/// at once and after further calls. Without these settings it shows in the windows too.
 #[test]
 fn completions_in_any_order() {
-    let mut random = Random::new(29);
-    let [mut logs, mut windows] = [0, 0];
+    let mut random = Random::new(31);
     let histories = random_histories(30);
-    for (history, further) in histories.iter().zip(histories.iter().rev()) {
-        let completions = random_completions(&mut random);
-        let order = shuffled(&mut random, &completions);
-        let with = with_largest(history);
-        let [first, second] = [&completions, &order].map(|order| facts_after(&with, order, further));
-        logs += usize::from(first.debug_log != second.debug_log);
-        assert_eq!(Facts { debug_log: None, ..first }, Facts { debug_log: None, ..second });
-        let [first, second] = [&completions, &order].map(|order| facts_after(history, order, &[]).active_window);
-        windows += usize::from(first != second);
+    for further in [false, true] {
+        let [mut logs, mut others] = [0, 0];
+        for (history, next) in histories.iter().zip(histories.iter().rev()) {
+            // Settings would empty the windows.
+            let next = next.iter().filter(|call| further && !matches!(call, Call::Settings(_)));
+            let next: Vec<Call> = next.cloned().collect();
+            let completions = random_completions(&mut random);
+            let orders = [completions.clone(), shuffled(&mut random, &completions)];
+            let with = with_largest(history);
+            let [first, second] = orders.each_ref().map(|order| facts_after(&with, order, &next));
+            assert_eq!(first.0, second.0);
+            logs += usize::from(first.1 != second.1);
+            let [first, second] = orders.each_ref().map(|order| facts_after(history, order, &next));
+            others += usize::from(first.0 != second.0);
+        }
+        assert!(logs > 0 && others > 0);
     }
-    assert!(logs > 0 && windows > 0);
 }
 
 /// What the reference writes it reads back as the facts behind it, but for the discard byte and the counts below A.

@@ -1,6 +1,6 @@
 -- Completions in any order: each is one more for its counter and the larger of two latencies, so that two neighbours
 -- may be exchanged.
-use Prim.Native.Nat.{ℕ, zero, suc, _≤_, _<_, max}
+use Prim.Native.Nat.{ℕ, zero, suc, _*_, _≤_, _<_, max}
 use mathlib.Core.Path.{_≡_, refl, sym, ap, _∙_}
 use mathlib.Core.Bool.{Bool, true, false, cond, true≢false, _||_, and-true, Bool-set}
 use mathlib.Core.HLevel.{Σ-set}
@@ -21,11 +21,11 @@ use Rattle.monitor.specs.declared.commands.Command.{Command}
 use Rattle.monitor.specs.declared.record.Monitor.{Monitor}
 use Rattle.monitor.specs.Claims.{recordOf}
 use Rattle.monitor.specs.Commands.{counterOf, belowAOf, millisecondsOf}
-use Rattle.monitor.specs.Counting.{onceMore, onceMoreAt, countedBelowA, larger, loads, countedIn}
-use Rattle.monitor.specs.History.{settings, completion, elapsed, clock, powerUp, page, settingsBack, belowA}
-use Rattle.monitor.specs.History.{pastOf, playFrom}
-use Rattle.monitor.specs.Order.{LargestAtOnce, afterCompletions, withoutDebug, InAnyOrder, InAnyOrderAfterHistory}
-use Rattle.monitor.specs.Order.{DebugLeftOut}
+use Rattle.monitor.specs.Counting.{onceMore, onceMoreAt, countedBelowA, larger, waited, loads, countedIn}
+use Rattle.monitor.specs.History.{Call, settings, completion, elapsed, clock, powerUp, page, settingsBack}
+use Rattle.monitor.specs.History.{belowA, pastOf, after, playFrom}
+use Rattle.monitor.specs.Order.{LargestWithoutMinimum, afterCompletions, withoutDebugLog, InAnyOrder}
+use Rattle.monitor.specs.Order.{InAnyOrderAfterHistory, DebugLogLeftOut}
 use Rattle.monitor.specs.Record.{untouchedIf, afterSettings, afterCompletion, afterElapsed, afterClock}
 use Rattle.monitor.specs.Record.{afterPowerUp, sinceLoad, loadsAt}
 use Rattle.monitor.specs.Refusals.{settingsRefusal, elapsedRefusal, clockRefusal}
@@ -39,23 +39,23 @@ abbrev store : {A : Type 0} → Bool → List A → ℕ → A → List A
 store load l n v = cond load (set l n v) l
 
 module _ {A : Type 0} (l : List A) where
-  -- at two places
+  -- two at different places may be exchanged
   apart : (s t : Bool) (n k : ℕ) (v w : A) → n ≢ k → store t (store s l n v) k w ≡ store s (store t l k w) n v
   apart true true n k v w h = set-comm l n k v w h
   apart true false n k v w h = refl
-  apart false true n k v w h = refl
-  apart false false n k v w h = refl
+  apart false t n k v w h = refl
 
+  -- one is not seen at another place
   elsewhere : (s : Bool) (n k : ℕ) (v d : A) → k ≢ n → getD (store s l n v) k d ≡ getD l k d
   elsewhere true n k v d h = getD-set-other l n k v d h
   elsewhere false n k v d h = refl
 
-  -- the same once more
+  -- the same may come twice
   again : (t : Bool) (n : ℕ) (v : A) → store t (set l n v) n v ≡ set l n v
   again true n v = set-set l n v v
   again false n v = refl
 
--- one more at each of two places
+-- one more at each of two places, in either order
 more-apart : (l : List ℕ) (n k : ℕ) → onceMoreAt (onceMoreAt l n) k ≡ onceMoreAt (onceMoreAt l k) n
 more-apart l n k = by (ℕ-discrete n k)
   where
@@ -118,7 +118,7 @@ tally-set = Tally-set′ window-set (List·isSet ℕ-set)
 abbrev loads-over : Window → ℕ → ℕ → Bool
 loads-over w n ms = eqb (getD (w .stamps) n 0) unset || larger (getD (w .latencies) n 0) ms
 
--- with more ms too
+-- if so many ms do, more do
 grows : (w : Window) (n a b : ℕ) → a ≤ b → loads-over w n a ≡ true → loads-over w n b ≡ true
 grows w n a b h e = by (eqb (getD (w .stamps) n 0) unset) refl
   where
@@ -153,7 +153,7 @@ module _ (m : Monitor) where
   abbrev tally : Command → Tally → Tally
   tally c x = tallied (counterOf (m .settings) c) (belowAOf (m .settings) c) (millisecondsOf c) x
 
-  -- two for different counters
+  -- two for different counters may be exchanged
   two-apart :
       (n k a b : ℕ) (x : Tally) →
       n ≢ k →
@@ -202,6 +202,7 @@ module _ (m : Monitor) where
             let is-a : max a b ≡ a = omega arith in
             rw (is-a, e) (rw f)
 
+    -- so two for any counters may be exchanged
     for-counters :
         (n k a b : ℕ) (x : Tally) →
         Dec (n ≡ k) →
@@ -211,7 +212,7 @@ module _ (m : Monitor) where
         let either : max a b ≡ max b a = omega arith in
         rw e (twice k a b x ∙ ap (λ ms. counted false k 0 (counted-at k ms x)) either ∙ sym (twice k b a x))
 
-    -- two neighbours
+    -- and any two neighbours
     exchange : (c d : Command) (x : Tally) → tally c (tally d x) ≡ tally d (tally c x)
     exchange c d x =
         by (counterOf (m .settings) c) (counterOf (m .settings) d) (belowAOf (m .settings) c) (belowAOf (m .settings) d)
@@ -230,31 +231,39 @@ module _ (m : Monitor) where
         by none none (some j) none = refl
         by none none (some j) (some k) = rw (more-apart (x .below-a) k j)
 
--- what a call may turn away, with its debug log and without
+-- a call that may be turned away, on a record with its debug log and without
 either-way :
     (o : Option ℕ) (m r s : Monitor) →
-    withoutDebug r ≡ withoutDebug s →
-    withoutDebug (untouchedIf o m r) ≡ withoutDebug (untouchedIf o (withoutDebug m) s)
+    withoutDebugLog r ≡ withoutDebugLog s →
+    withoutDebugLog (untouchedIf o m r) ≡ withoutDebugLog (untouchedIf o (withoutDebugLog m) s)
 either-way none m r s e = e
 either-way (some n) m r s e = refl
 
-pub debug-left-out : DebugLeftOut
+one-call : (m : Monitor) (c : Call) → withoutDebugLog (after c m) ≡ withoutDebugLog (after c (withoutDebugLog m))
 unfolding afterSettings afterCompletion afterElapsed afterClock afterPowerUp
-debug-left-out m (settings s) = either-way (settingsRefusal s) m _ _ refl
-debug-left-out m (completion c) = by (counterOf (m .settings) c) refl
+one-call m (settings s) = either-way (settingsRefusal s) m _ _ refl
+one-call m (completion c) = by (counterOf (m .settings) c) refl
   where
     by :
         (o : Option ℕ) →
         counterOf (m .settings) c ≡ o →
-        withoutDebug (afterCompletion m c) ≡ withoutDebug (afterCompletion (withoutDebug m) c)
+        withoutDebugLog (afterCompletion m c) ≡ withoutDebugLog (afterCompletion (withoutDebugLog m) c)
     by none e = rw e
     by (some n) e = rw e
-debug-left-out m (elapsed ms) = either-way (elapsedRefusal ms) m _ _ refl
-debug-left-out m (clock value) = either-way (clockRefusal value) m _ _ refl
-debug-left-out m powerUp = refl
-debug-left-out m (page n) = refl
-debug-left-out m (settingsBack n) = refl
-debug-left-out m (belowA w) = refl
+one-call m (elapsed ms) = either-way (elapsedRefusal ms) m _ _ refl
+one-call m (clock value) = either-way (clockRefusal value) m _ _ refl
+one-call m powerUp = refl
+one-call m (page n) = refl
+one-call m (settingsBack n) = refl
+one-call m (belowA w) = refl
+
+pub debug-log-left-out : DebugLogLeftOut
+unfolding playFrom
+debug-log-left-out m [] = refl
+debug-log-left-out m (c ∷ h) =
+    one-call (playFrom m h) c ∙
+    ap (λ r. withoutDebugLog (after c r)) (debug-log-left-out m h) ∙
+    sym (one-call (playFrom (withoutDebugLog m) h) c)
 
 module _ (m : Monitor) where
   -- the record with another tally, and its own
@@ -277,37 +286,39 @@ module _ (m : Monitor) where
   abbrev own-tally : Tally
   own-tally = record { window = m .«active_window»; loaded = m .loaded; below-a = m .«active_below_a» }
 
-  module _ (fine : LargestAtOnce (m .settings)) where
+  module _ (fine : LargestWithoutMinimum (m .settings)) where
     -- what the rule asks for, in mode largest without a minimum window
     load-is : (x : Tally) (n ms : ℕ) → n < 12 → loadsAt (with-tally x) n ms ≡ loads-over (x .window) n ms
     unfolding loads
     load-is x n ms few =
-        rw (fine .largest n few, fine .no-minimum, le-leb 0 (sinceLoad (with-tally x) n) (omega arith))
-        (rw (and-true (larger (getD (x .window .latencies) n 0) ms)))
+        let since : ℕ = sinceLoad (with-tally x) n in
+        let minimum : ℕ = m .settings .«minimum_window» in
+        let over-now : waited since minimum ≡ true = le-leb (100 * minimum) since (omega (arith, fine .no-minimum)) in
+        rw (fine .largest n few, over-now, and-true (larger (getD (x .window .latencies) n 0) ms))
 
-    one-tallied : (c : Command) (x : Tally) → withoutDebug (afterCompletion (with-tally x) c) ≡ with-tally (tally m c x)
+    one-tallied : (c : Command) (x : Tally) → withoutDebugLog (afterCompletion (with-tally x) c) ≡ with-tally (tally m c x)
     unfolding afterCompletion
     one-tallied c x = by (counterOf (m .settings) c) refl
       where
         by :
             (o : Option ℕ) →
             counterOf (m .settings) c ≡ o →
-            withoutDebug (afterCompletion (with-tally x) c) ≡ with-tally (tally m c x)
+            withoutDebugLog (afterCompletion (with-tally x) c) ≡ with-tally (tally m c x)
         by none e = rw e
         by (some n) e = rw (e, load-is x n (millisecondsOf c) (counter-below (m .settings) c n e))
 
-    all-tallied : (cs : List Command) → withoutDebug (afterCompletions m cs) ≡ with-tally (foldr (tally m) own-tally cs)
+    all-tallied : (cs : List Command) → withoutDebugLog (afterCompletions m cs) ≡ with-tally (foldr (tally m) own-tally cs)
     unfolding playFrom
     all-tallied [] = refl
     all-tallied (c ∷ cs) =
-        debug-left-out (afterCompletions m cs) (completion c) ∙
-        ap (λ r. withoutDebug (afterCompletion r c)) (all-tallied cs) ∙
+        one-call (afterCompletions m cs) (completion c) ∙
+        ap (λ r. withoutDebugLog (afterCompletion r c)) (all-tallied cs) ∙
         one-tallied c (foldr (tally m) own-tally cs)
 
 pub in-any-order : InAnyOrder
 in-any-order m cs ds fine below order =
     all-tallied m fine cs ∙
-    ap (with-tally m) (Perm·foldr-eq tally-set (tally m) (exchange m below) order (own-tally m)) ∙
+    ap (with-tally m) (Perm·foldr-eq tally-set (tally m) (exchange m (omega (arith, below))) order (own-tally m)) ∙
     sym (all-tallied m fine ds)
 
 pub in-any-order-after-history : InAnyOrderAfterHistory

@@ -9,10 +9,10 @@ use Rattle.monitor.specs.declared.commands.Command.{Command}
 use Rattle.monitor.specs.declared.record.Monitor.{Monitor}
 use Rattle.monitor.specs.Counting.{bit}
 use Rattle.monitor.specs.Facts.{inForce}
-use Rattle.monitor.specs.History.{Call, completion, History, pastOf, after, playFrom, play}
+use Rattle.monitor.specs.History.{completion, History, pastOf, playFrom, play}
 
 -- mode largest for all twelve counters, and no minimum window
-pub record LargestAtOnce (s : Settings) : Type 0 where
+pub record LargestWithoutMinimum (s : Settings) : Type 0 where
   pub largest : (n : ℕ) → n < 12 → bit (s .mode) n ≡ true
   pub no-minimum : s .«minimum_window» ≡ 0
 
@@ -21,8 +21,8 @@ abbrev pub afterCompletions : Monitor → List Command → Monitor
 afterCompletions m cs = playFrom m (map completion cs)
 
 -- a record but for its debug log, which goes to the first completion that triggers it
-abbrev pub withoutDebug : Monitor → Monitor
-withoutDebug m =
+abbrev pub withoutDebugLog : Monitor → Monitor
+withoutDebugLog m =
     record {
       settings = m .settings;
       clock = m .clock;
@@ -37,24 +37,26 @@ withoutDebug m =
       debug = noDebugLog;
     }
 
--- Completions and a rearrangement of them leave the same of a record but for the debug log, so the same active window
--- and counts below threshold A. The clock is not the value of an unset stamp
+-- Completions and a rearrangement of them leave the same record but for the debug log, so the same active window and
+-- counts below threshold A. The clock is not all ones, which would be stored as an unset stamp
 abbrev pub InAnyOrder : Type 0
 InAnyOrder =
     (m : Monitor) (cs ds : List Command) →
-    LargestAtOnce (m .settings) →
+    LargestWithoutMinimum (m .settings) →
     m .clock < unset →
     Perm cs ds →
-    withoutDebug (afterCompletions m cs) ≡ withoutDebug (afterCompletions m ds)
+    withoutDebugLog (afterCompletions m cs) ≡ withoutDebugLog (afterCompletions m ds)
 
--- so after any history: its clock never has that value
+-- and so after any history, whose clock never is
 abbrev pub InAnyOrderAfterHistory : Type 0
 InAnyOrderAfterHistory =
     (h : History) (cs ds : List Command) →
-    LargestAtOnce (inForce (pastOf h)) →
+    LargestWithoutMinimum (inForce (pastOf h)) →
     Perm cs ds →
-    withoutDebug (afterCompletions (play h) cs) ≡ withoutDebug (afterCompletions (play h) ds)
+    withoutDebugLog (afterCompletions (play h) cs) ≡ withoutDebugLog (afterCompletions (play h) ds)
 
--- What a call leaves of all else does not depend on the debug log, so no later call tells two orders apart but by it
-abbrev pub DebugLeftOut : Type 0
-DebugLeftOut = (m : Monitor) (c : Call) → withoutDebug (after c m) ≡ withoutDebug (after c (withoutDebug m))
+-- What calls leave of a record but for the debug log does not depend on the debug log, so that no call after them tells
+-- two orders apart but by it
+abbrev pub DebugLogLeftOut : Type 0
+DebugLogLeftOut =
+    (m : Monitor) (h : History) → withoutDebugLog (playFrom m h) ≡ withoutDebugLog (playFrom (withoutDebugLog m) h)
