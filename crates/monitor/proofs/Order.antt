@@ -101,6 +101,8 @@ record Tally : Type 0 where
   below-a : List ℕ
   deriving IsSet as Tally-set′
 
+-- `Perm` says that there is a way to rearrange, and not which; so the library's law asks that two tallies are equal in
+-- one way at most
 window-set : IsSet Window
 window-set =
     retract-set (λ w. (w .counters, (w .stamps, (w .latencies, w .units))))
@@ -144,7 +146,7 @@ module _ (m : Monitor) where
   abbrev counted-at : ℕ → ℕ → Tally → Tally
   counted-at n ms x = counted (loads-over (x .window) n ms) n ms x
 
-  -- by the counter; without one, by the kind below threshold A
+  -- a completion, by its counter; without one, by its kind below threshold A
   abbrev tallied : Option ℕ → Option ℕ → ℕ → Tally → Tally
   tallied (some n) kind ms x = counted-at n ms x
   tallied none kind ms x =
@@ -203,12 +205,12 @@ module _ (m : Monitor) where
             rw (is-a, e) (rw f)
 
     -- so two for any counters may be exchanged
-    for-counters :
+    any-counters :
         (n k a b : ℕ) (x : Tally) →
         Dec (n ≡ k) →
         counted-at k b (counted-at n a x) ≡ counted-at n a (counted-at k b x)
-    for-counters n k a b x (no h) = two-apart n k a b x h
-    for-counters n k a b x (yes e) =
+    any-counters n k a b x (no h) = two-apart n k a b x h
+    any-counters n k a b x (yes e) =
         let either : max a b ≡ max b a = omega arith in
         rw e (twice k a b x ∙ ap (λ ms. counted false k 0 (counted-at k ms x)) either ∙ sym (twice k b a x))
 
@@ -224,7 +226,7 @@ module _ (m : Monitor) where
         b = millisecondsOf d
 
         by : (p q j k : Option ℕ) → tallied p j a (tallied q k b x) ≡ tallied q k b (tallied p j a x)
-        by (some n) (some i) j k = for-counters i n b a x (ℕ-discrete i n)
+        by (some n) (some i) j k = any-counters i n b a x (ℕ-discrete i n)
         by (some n) none j k = refl
         by none (some i) j k = refl
         by none none none k = refl
@@ -296,6 +298,7 @@ module _ (m : Monitor) where
         let over-now : waited since minimum ≡ true = le-leb (100 * minimum) since (omega (arith, fine .no-minimum)) in
         rw (fine .largest n few, over-now, and-true (larger (getD (x .window .latencies) n 0) ms))
 
+    -- the call's own definition is the tally's
     one-tallied : (c : Command) (x : Tally) → withoutDebugLog (afterCompletion (with-tally x) c) ≡ with-tally (tally m c x)
     unfolding afterCompletion
     one-tallied c x = by (counterOf (m .settings) c) refl
