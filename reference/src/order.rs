@@ -70,7 +70,7 @@ fn records() -> [(Events, &'static [usize]); 7] {
     ]
 }
 
-/// Completions of every kind, and of none: two below A and two in each bucket.
+/// Two completions of each command below A, and two in each bucket: of every kind, and of none.
 pub(crate) fn random_completions(random: &mut Random) -> Vec<Timed> {
     let mut completions = Vec::new();
     for command in [READ, WRITE, DEALLOCATE, WRITE_ZEROES_DEAC, DATASET_MANAGEMENT] {
