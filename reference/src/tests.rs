@@ -516,18 +516,18 @@ fn rearranged(files: [&[u8]; 2]) -> bool {
 
 #[test]
 fn orders_with_different_pages() {
-    let pairs = order::different();
+    let orders = order::different();
     // The measured latency of the Reads in bucket 0, and their stamp.
     let expected = [[(5, 77), (6, 77)], [(5, 77), (6, 77)], [(6, 78), (6, 77)], [(6, 77), (6, 77)]];
-    assert_eq!(pairs.len(), expected.len());
-    for (files, expected) in pairs.iter().zip(expected) {
+    assert_eq!(orders.len(), expected.len());
+    for (files, expected) in orders.iter().zip(expected) {
         assert!(rearranged(files.each_ref().map(|file| &file.0[..])));
         let pages = files.clone().map(page_of);
         assert_ne!(pages[0], pages[1]);
         assert_eq!(pages.map(|page| (number(&page, 214, 2), number(&page, 184, 8))), expected);
     }
     // The last two pages differ in the debug log's measured latency alone.
-    let [first, second] = pairs.last().unwrap().clone().map(page_of);
+    let [first, second] = orders.last().unwrap().clone().map(page_of);
     let places = (0..512).filter(|&place| first[place] != second[place]);
     assert_eq!(places.map(|place| (place, first[place], second[place])).collect::<Vec<_>>(), [(450, 5, 6)]);
 }

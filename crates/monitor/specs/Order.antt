@@ -47,7 +47,7 @@ InAnyOrder =
     Perm cs ds →
     withoutDebugLog (afterCompletions m cs) ≡ withoutDebugLog (afterCompletions m ds)
 
--- and so after any history, whose clock never is
+-- and so after any history, whose clock is never all ones
 abbrev pub InAnyOrderAfterHistory : Type 0
 InAnyOrderAfterHistory =
     (h : History) (cs ds : List Command) →
@@ -55,8 +55,7 @@ InAnyOrderAfterHistory =
     Perm cs ds →
     withoutDebugLog (afterCompletions (play h) cs) ≡ withoutDebugLog (afterCompletions (play h) ds)
 
--- What calls leave of a record but for the debug log does not depend on the debug log, so that no call after them tells
--- two orders apart but by it
+-- The debug log decides on nothing but itself, so whatever calls follow, two orders stay the same but for it
 abbrev pub DebugLogLeftOut : Type 0
 DebugLogLeftOut =
     (m : Monitor) (h : History) → withoutDebugLog (playFrom m h) ≡ withoutDebugLog (playFrom (withoutDebugLog m) h)
