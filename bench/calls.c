@@ -1,10 +1,14 @@
 /*
  * Measures the calls of the product beside those of the monitor in C.
- *   calls times ROUNDS           ns a call: a line for each case
- *   calls count SIDE CASE LAPS   runs one case on one side and prints its calls, for a count of instructions
- *   calls stack                  the stack of each call, in bytes
- *   calls record                 the size of the record, in bytes
- * A line's fields are separated by tabs: the product's first, then those of C by gcc -O2 and by gcc -O3.
+ *   calls check                         fails if the sides differ in their answers or in what they show
+ *   calls times ORDERS ROUNDS           ns a call: a line for each case
+ *   calls count ORDERS SIDE CASE LAPS   runs one case on one side and prints its calls, for a count of instructions
+ *   calls stack                         the stack of each call, in bytes
+ *   calls record                        the size of the record, in bytes
+ * ORDERS is 1 for one lap that is repeated, or 64 for laps with an order of their own, and then only the cases whose
+ * time can depend on the order are printed. A line's fields are separated by tabs. A line of times starts with the
+ * numbers of its case and of its fastest C side, and ends with the times of every C side. The stack is the product's
+ * and that of the first two C sides, the record the product's and that of the first C side and of the last.
  */
 
 #include "side.h"
@@ -14,21 +18,28 @@
 #include <string.h>
 #include <time.h>
 
-extern const struct side product, c_O2, c_O3;
+/* EACH_SIDE is given by the compiler's command line: the product, and then C by each compiler, level and form. */
+#define DECLARED(name) extern const struct side name;
+#define LISTED(name) &name,
+EACH_SIDE(DECLARED)
+static const struct side *const sides[] = {EACH_SIDE(LISTED)};
 
-enum { SIDES = 3, RUNS = 20, LAPS = 16, MOST_ROUNDS = 1001 };
-
-static const struct side *const sides[SIDES] = {&product, &c_O2, &c_O3};
+enum { SIDES = sizeof sides / sizeof sides[0], STACKS = 3, RUNS = 20, LAPS = 16, MOST_ROUNDS = 1001 };
 
 /* Calls of a lap: of the short ones, and of those that go over 512 or 4,096 bytes. */
 enum { SHORT = 1536, LONG = 64 };
+
+/* Laps with an order and inputs of their own: a processor learns the branches of one lap. */
+enum { ORDERS = 64, EACH = ORDERS * SHORT };
+
+_Static_assert(RUNS * LAPS % ORDERS == 0, "a round has each order as often");
 
 enum { KINDS = 3 };
 
 enum { COUNTERS = LATENCY_MONITOR_COUNTERS, FIRST = 0, LARGEST = 0x0FFF, TRIGGER = 0x0249, INCREMENT_MS = 300000 };
 
-static struct latency_monitor_command below[SHORT], other[SHORT], slow[SHORT], each_counter[COUNTERS];
-static uint32_t ms[SHORT];
+static struct latency_monitor_command below[EACH], other[EACH], slow[EACH], each_counter[COUNTERS];
+static uint32_t ms[EACH];
 static uint64_t clocks[SHORT];
 static struct named_settings settings[LONG];
 static _Alignas(64) struct log_page pages[LONG];
@@ -55,25 +66,26 @@ static const char *const names[CALLS] = {
 
 /* Where stamps are loaded, each lap starts with a new window. */
 static const struct work works[] = {
-    [EMPTY_COMPLETION] = {.name = "empty completion", .call = EMPTY_COMPLETION, .calls = SHORT, .commands = slow},
-    [EMPTY_NUMBER] = {.name = "empty call", .call = EMPTY_NUMBER, .calls = SHORT},
-    {.name = "completion, below A", .call = COMPLETION, .calls = SHORT, .commands = below},
-    {.name = "completion, of no kind", .call = COMPLETION, .calls = SHORT, .commands = other},
-    {.name = "completion, counted", .call = COMPLETION, .calls = SHORT, .commands = slow, .mode = FIRST,
-        .answers = COUNTED},
-    {.name = "completion, loaded", .call = COMPLETION, .calls = SHORT, .commands = slow, .mode = LARGEST,
-        .lap_ms = INCREMENT_MS, .answers = LOADED + LAP_ENDED},
-    {.name = "elapsed", .call = ELAPSED, .calls = SHORT, .ms = ms},
+    [EMPTY_COMPLETION] = {.name = "empty completion", .call = EMPTY_COMPLETION, .calls = SHORT, .orders = ORDERS,
+        .commands = slow},
+    [EMPTY_NUMBER] = {.name = "empty call", .call = EMPTY_NUMBER, .calls = SHORT, .orders = ORDERS},
+    {.name = "completion, below A", .call = COMPLETION, .calls = SHORT, .orders = ORDERS, .commands = below},
+    {.name = "completion, of no kind", .call = COMPLETION, .calls = SHORT, .orders = ORDERS, .commands = other},
+    {.name = "completion, counted", .call = COMPLETION, .calls = SHORT, .orders = ORDERS, .commands = slow,
+        .mode = FIRST, .answers = COUNTED},
+    {.name = "completion, loaded", .call = COMPLETION, .calls = SHORT, .orders = ORDERS, .commands = slow,
+        .mode = LARGEST, .lap_ms = INCREMENT_MS, .answers = LOADED + LAP_ENDED},
+    {.name = "elapsed", .call = ELAPSED, .calls = SHORT, .orders = ORDERS, .ms = ms},
     {.name = "set_clock", .call = SET_CLOCK, .calls = SHORT, .clocks = clocks},
     {.name = "power_up", .call = POWER_UP, .calls = SHORT},
     {.name = "active_below_a", .call = ACTIVE_BELOW_A, .calls = SHORT, .answers = SHORT * BELOW_A},
     {.name = "static_below_a", .call = STATIC_BELOW_A, .calls = SHORT},
-    {.name = "reason, below A", .call = REASON, .calls = SHORT, .commands = below,
+    {.name = "reason, below A", .call = REASON, .calls = SHORT, .orders = ORDERS, .commands = below,
         .answers = SHORT * LATENCY_MONITOR_REASON_BELOW_A},
-    {.name = "reason, mode first", .call = REASON, .calls = SHORT, .commands = slow, .mode = FIRST,
-        .answers = SHORT * LATENCY_MONITOR_REASON_MODE_FIRST},
-    {.name = "reason, mode largest", .call = REASON, .calls = SHORT, .commands = slow, .mode = LARGEST,
-        .answers = NOT_LARGER},
+    {.name = "reason, mode first", .call = REASON, .calls = SHORT, .orders = ORDERS, .commands = slow,
+        .mode = FIRST, .answers = SHORT * LATENCY_MONITOR_REASON_MODE_FIRST},
+    {.name = "reason, mode largest", .call = REASON, .calls = SHORT, .orders = ORDERS, .commands = slow,
+        .mode = LARGEST, .answers = NOT_LARGER},
     {.name = "page", .call = PAGE, .calls = LONG},
     {.name = "read_page", .call = READ_PAGE, .calls = LONG, .pages = pages},
     {.name = "settings_back", .call = SETTINGS_BACK, .calls = LONG},
@@ -134,8 +146,8 @@ static struct named_settings settings_of(uint16_t timer_threshold, uint16_t mode
     }};
 }
 
-/* The counters in a drawn order, each with commands that are 1 ms slower every time. */
-static void draw_slow(void)
+/* A lap of the counters in a drawn order, each with commands that are 1 ms slower every time. */
+static void draw_slow(struct latency_monitor_command *lap)
 {
     uint8_t order[SHORT];
     uint32_t seen[COUNTERS] = {0};
@@ -146,7 +158,7 @@ static void draw_slow(void)
         order[other] = (uint8_t)(i % COUNTERS);
     }
     for (int i = 0; i < SHORT; i++)
-        slow[i] = command_for(order[i], 1000 * seen[order[i]]++ + draw(1000));
+        lap[i] = command_for(order[i], 1000 * seen[order[i]]++ + draw(1000));
 }
 
 static void complete_some(const struct side *side)
@@ -182,15 +194,17 @@ static void draw_inputs(void)
 {
     for (int n = 0; n < COUNTERS; n++)
         each_counter[n] = command_for(n, 0);
-    draw_slow();
-    for (int i = 0; i < SHORT; i++) {
+    for (int lap = 0; lap < ORDERS; lap++)
+        draw_slow(slow + lap * SHORT);
+    for (int i = 0; i < EACH; i++) {
         below[i] = command_for((int)draw(3), 0);
         below[i].latency = 20 + draw(4980);
         other[i] = below[i];
         other[i].opcode = (uint8_t)(10 + draw(246));
         ms[i] = draw(20);
-        clocks[i] = (uint64_t)draw(1 << 16) << 32 | draw(UINT32_MAX);
     }
+    for (int i = 0; i < SHORT; i++)
+        clocks[i] = (uint64_t)draw(1 << 16) << 32 | draw(UINT32_MAX);
     for (int i = 0; i < LONG; i++) {
         uint16_t timer_threshold = (uint16_t)(1 + draw(1000)), mode = (uint16_t)draw(4096);
         settings[i] = settings_of(timer_threshold, mode, (uint16_t)draw(4096), draw(4) > 0);
@@ -254,16 +268,16 @@ static uint64_t ask_and_complete(struct latency_monitor_command command)
     return reason;
 }
 
-/* Every opcode, without the deallocate attribute and with it, just below A and at A. */
+/* Every opcode, without the deallocate attribute and with it, just below A, at A, and with the largest latency. */
 static void complete_alike(void)
 {
-    uint32_t a_us = command_for(0, 0).latency;
+    uint32_t a_us = command_for(0, 0).latency, us[3] = {a_us - 1, a_us, UINT32_MAX};
 
     for (int opcode = 0; opcode < 256; opcode++)
         for (int deallocate = 0; deallocate < 2; deallocate++)
-            for (uint32_t us = a_us - 1; us <= a_us; us++)
+            for (int i = 0; i < 3; i++)
                 ask_and_complete((struct latency_monitor_command){
-                    .latency = us, .opcode = (uint8_t)opcode, .deallocate = deallocate});
+                    .latency = us[i], .opcode = (uint8_t)opcode, .deallocate = deallocate});
 }
 
 /* Drawn modes and minimum windows; few counters, so that stamps are met again, and time at the minimum window's end,
@@ -358,6 +372,13 @@ static void check_readings(void)
     }
 }
 
+static void check_alike(void)
+{
+    check_readings();
+    check_counts();
+    check_reasons();
+}
+
 /* The program's own time: other programs' turns on the processor are left out. */
 static double now_ns(void)
 {
@@ -371,12 +392,12 @@ static double ns_a_call(const struct side *side, const struct work *w)
 {
     double took = 0;
 
-    for (int r = 0; r < RUNS; r++) {
+    for (size_t r = 0; r < RUNS; r++) {
         uint64_t sum;
         double from;
         make_ready(side, w->mode);
         from = now_ns();
-        sum = side->run(w, LAPS);
+        sum = side->run(w, r * LAPS, LAPS);
         took += now_ns() - from;
         check_answers(w, LAPS, sum);
     }
@@ -410,8 +431,8 @@ static double median(const double *values, size_t count)
     return (sorted[(count - 1) / 2] + sorted[count / 2]) / 2;
 }
 
-/* The ratio of the medians, the smallest and the largest of a round, and the one less the empty calls' times. */
-static void print_ratios(size_t rounds, const double *ours, const double *c, double our_empty, double c_empty)
+/* The ratio of the medians, the smallest and the largest of a round, and the one less the empty call's time. */
+static void print_ratios(size_t rounds, const double *ours, const double *c, double empty)
 {
     double our_median = median(ours, rounds), c_median = median(c, rounds);
     double smallest = ours[0] / c[0], largest = smallest;
@@ -422,48 +443,70 @@ static void print_ratios(size_t rounds, const double *ours, const double *c, dou
         largest = ratio > largest ? ratio : largest;
     }
     printf("\t%.2f\t%.2f\t%.2f", our_median / c_median, smallest, largest);
-    if (c_median > 1.05 * c_empty)
-        printf("\t%.2f\n", (our_median - our_empty) / (c_median - c_empty));
+    if (c_median > 1.05 * empty)
+        printf("\t%.2f", (our_median - empty) / (c_median - empty));
     else
-        printf("\t-\n");
+        printf("\t-");
 }
 
-/* The case whose loop is the same, around a call that does nothing. */
+/* The case whose loop is the same, around a call that does nothing. It is the same code on all sides, so the median of
+ * theirs is taken. */
 static enum call empty_of(enum call call)
 {
     return call == COMPLETION || call == EMPTY_COMPLETION ? EMPTY_COMPLETION : EMPTY_NUMBER;
 }
 
-/* Ratios are to the faster C side. */
-static void print_times(size_t rounds)
+static int fastest_c(const double middle[SIDES])
+{
+    int c = 1;
+
+    for (int s = 2; s < SIDES; s++)
+        if (middle[s] < middle[c])
+            c = s;
+    return c;
+}
+
+/* The work with as many orders, if it is one whose time can depend on them. */
+static bool has_orders(struct work *w, size_t number, size_t orders)
+{
+    *w = works[number];
+    if (orders > 1 && w->orders < orders)
+        return false;
+    w->orders = orders;
+    return true;
+}
+
+/* Ratios are to the fastest C side. */
+static void print_times(size_t orders, size_t rounds)
 {
     static double ns[SIDES][MOST_ROUNDS], middle[WORKS][SIDES];
+    struct work w;
 
-    check_readings();
-    check_counts();
-    check_reasons();
-    for (int k = 0; k < WORKS; k++) {
-        const double *empty = middle[empty_of(works[k].call)];
+    for (size_t k = 0; k < WORKS; k++) {
         int c;
-        measure(&works[k], rounds, ns);
-        printf("%s", works[k].name);
-        for (int s = 0; s < SIDES; s++) {
+        if (!has_orders(&w, k, orders))
+            continue;
+        measure(&w, rounds, ns);
+        for (int s = 0; s < SIDES; s++)
             middle[k][s] = median(ns[s], rounds);
+        c = fastest_c(middle[k]);
+        printf("%zu\t%d\t%s\t%.2f\t%.2f\t%s", k, c, w.name, middle[k][0], middle[k][c], sides[c]->title);
+        print_ratios(rounds, ns[0], ns[c], median(middle[empty_of(w.call)], SIDES));
+        for (int s = 1; s < SIDES; s++)
             printf("\t%.2f", middle[k][s]);
-        }
-        c = middle[k][1] <= middle[k][2] ? 1 : 2;
-        print_ratios(rounds, ns[0], ns[c], empty[0], empty[c]);
-        fflush(stdout);
+        printf("\n");
     }
 }
 
-static void count(size_t side, size_t work, size_t laps)
+static void count(size_t orders, size_t side, size_t number, size_t laps)
 {
-    if (side >= SIDES || work >= WORKS)
+    struct work w;
+
+    if (side >= SIDES || number >= WORKS || !has_orders(&w, number, orders))
         fail("count", "no such side or case");
-    make_ready(sides[side], works[work].mode);
-    check_answers(&works[work], laps, sides[side]->run(&works[work], laps));
-    printf("%zu\n", laps * works[work].calls);
+    make_ready(sides[side], w.mode);
+    check_answers(&w, laps, sides[side]->run(&w, 0, laps));
+    printf("%zu\n", laps * w.calls);
 }
 
 /* Each call in its ways: a completion loads and takes a debug log, and then neither; the window ends; a page that is
@@ -493,9 +536,9 @@ static void note_depths(const struct side *side, size_t depth[CALLS])
 
 static void print_stack(void)
 {
-    size_t depth[SIDES][CALLS] = {{0}};
+    size_t depth[STACKS][CALLS] = {{0}};
 
-    for (int s = 0; s < SIDES; s++)
+    for (int s = 0; s < STACKS; s++)
         note_depths(sides[s], depth[s]);
     for (int call = NEW; call < CALLS; call++)
         printf("%s\t%zu\t%zu\t%zu\n", names[call], depth[0][call], depth[1][call], depth[2][call]);
@@ -504,20 +547,22 @@ static void print_stack(void)
 int main(int argc, char **argv)
 {
     const char *job = argc > 1 ? argv[1] : "";
-    size_t numbers[3] = {0};
+    size_t n[4] = {0};
 
-    for (int i = 2; i < argc && i < 5; i++)
-        numbers[i - 2] = strtoul(argv[i], NULL, 10);
+    for (int i = 2; i < argc && i < 6; i++)
+        n[i - 2] = strtoul(argv[i], NULL, 10);
     draw_inputs();
-    if (strcmp(job, "times") == 0 && numbers[0] >= 1 && numbers[0] <= MOST_ROUNDS)
-        print_times(numbers[0]);
-    else if (strcmp(job, "count") == 0)
-        count(numbers[0], numbers[1], numbers[2]);
+    if (strcmp(job, "check") == 0)
+        check_alike();
+    else if (strcmp(job, "times") == 0 && n[0] >= 1 && n[0] <= ORDERS && n[1] >= 1 && n[1] <= MOST_ROUNDS)
+        print_times(n[0], n[1]);
+    else if (strcmp(job, "count") == 0 && n[0] >= 1 && n[0] <= ORDERS)
+        count(n[0], n[1], n[2], n[3]);
     else if (strcmp(job, "stack") == 0)
         print_stack();
     else if (strcmp(job, "record") == 0)
-        printf("%zu\t%zu\t%zu\n", sides[0]->record_size, sides[1]->record_size, sides[2]->record_size);
+        printf("%zu\t%zu\t%zu\n", sides[0]->record_size, sides[1]->record_size, sides[SIDES - 1]->record_size);
     else
-        fail(job, "times ROUNDS (1 to 1001), count SIDE CASE LAPS, stack or record");
+        fail(job, "check, times ORDERS ROUNDS, count ORDERS SIDE CASE LAPS (1 to 64, 1 to 1001), stack or record");
     return 0;
 }

@@ -10,11 +10,21 @@ enum { INCREMENT_MS = 300000, NAMED_SETTINGS = 13, VERSION = 4 };
 /* A command as a number: its opcode, and DEALLOCATE more with the deallocate attribute or bit. */
 enum { WRITE = 0x01, READ = 0x02, WRITE_ZEROES = 0x08, DATASET_MANAGEMENT = 0x09, DEALLOCATE = 0x100 };
 
-/* Kinds, from 1 on, by command, and no branch: no processor can guess the kind of the next one. */
-static const uint8_t kinds[] = {
-    [READ] = 1, [READ + DEALLOCATE] = 1, [WRITE] = 2, [WRITE + DEALLOCATE] = 2,
-    [WRITE_ZEROES + DEALLOCATE] = 3, [DATASET_MANAGEMENT + DEALLOCATE] = 3
-};
+/* A command's kind, from 1 on, or 0. It comes from a table: no processor can guess the kind of the next command. */
+static unsigned kind_of(unsigned command)
+{
+    static const uint8_t kinds[2 * DEALLOCATE] = {
+        [READ] = 1, [READ + DEALLOCATE] = 1, [WRITE] = 2, [WRITE + DEALLOCATE] = 2,
+        [WRITE_ZEROES + DEALLOCATE] = 3, [DATASET_MANAGEMENT + DEALLOCATE] = 3
+    };
+
+#ifndef BRANCH_FREE
+    /* gcc's code is the faster for it. */
+    if ((uint8_t)command > DATASET_MANAGEMENT)
+        return 0;
+#endif
+    return kinds[command];
+}
 
 /* The place of a field's lowest bit in the answer to a completion. */
 #define AT(field) (8 * offsetof(struct latency_monitor_completion_answer, field))
@@ -69,10 +79,21 @@ static void empty(struct in_place_window *w)
     memset(w->stamp, 0xFF, sizeof w->stamp);
 }
 
+/* In a new active window each counter's first completion is beyond its limit. None below A ever is, and of no kind one
+ * with the largest latency. */
+static void empty_active(struct in_place *m)
+{
+    empty(&m->active_window);
+#ifdef LIMITS
+    memset(m->limit_us, 0xFF, sizeof m->limit_us);
+    memset(m->limit_us + KINDS, 0, LATENCY_MONITOR_COUNTERS * sizeof m->limit_us[0]);
+#endif
+}
+
 void in_place_new(struct in_place *m)
 {
     memset(m, 0, sizeof *m);
-    empty(&m->active_window);
+    empty_active(m);
     empty(&m->static_window);
 }
 
@@ -116,10 +137,8 @@ uint8_t in_place_configure(struct in_place *m, const uint8_t *s, size_t length)
         m->debug_held = false;
     m->enabled = s[12];
     if (m->enabled) {
-        empty(&m->active_window);
+        empty_active(m);
         empty(&m->static_window);
-        memset(m->active_below_a, 0, sizeof m->active_below_a);
-        memset(m->static_below_a, 0, sizeof m->static_below_a);
         m->timer = 0;
         m->partial = 0;
         m->time = 0;
@@ -127,13 +146,11 @@ uint8_t in_place_configure(struct in_place *m, const uint8_t *s, size_t length)
     return LATENCY_MONITOR_ACCEPTED;
 }
 
-/* Counts for counter n, and loads its latency stamp if it is due. Says whether it was. */
-static bool count(struct in_place *m, unsigned n, uint16_t ms)
+/* Loads the latency stamp of counter n if it is due. Says whether it was. */
+static bool load(struct in_place *m, unsigned n, uint16_t ms)
 {
     struct in_place_window *w = &m->active_window;
 
-    if (w->count[n] != UINT32_MAX)
-        w->count[n]++;
     if (w->stamp[n] != LATENCY_MONITOR_UNSET
         && !(m->mode >> n & 1 && ms > w->latency[n] && m->time - m->load_time[n] >= 100u * m->minimum_window))
         return false;
@@ -147,7 +164,7 @@ static bool count(struct in_place *m, unsigned n, uint16_t ms)
 /* Takes a debug log if counter n triggers one and none is held. Says whether it did. */
 static bool debug(struct in_place *m, unsigned n, uint16_t ms)
 {
-    if (!(m->trigger >> n & 1) || m->debug_held)
+    if (m->debug_held || !(m->trigger >> n & 1))
         return false;
     m->debug_held = true;
     m->debug_latency = ms;
@@ -155,6 +172,20 @@ static bool debug(struct in_place *m, unsigned n, uint16_t ms)
     m->debug_units = m->host_set;
     m->debug_stamp = m->clock;
     return true;
+}
+
+/* The bucket of a latency; 0 below A, where LIMITS asks too. Branches are guessed wrong over commands in no order. */
+static unsigned bucket_of(const struct in_place *m, uint32_t us)
+{
+#if defined BRANCH_FREE || defined LIMITS
+    return (unsigned)(us >= m->threshold_us[1]) + (us >= m->threshold_us[2]) + (us >= m->threshold_us[3]);
+#else
+    unsigned bucket = 3;
+
+    while (us < m->threshold_us[bucket])
+        bucket--;
+    return bucket;
+#endif
 }
 
 /* The latency in whole ms, as many as two bytes hold. */
@@ -165,28 +196,90 @@ static uint16_t milliseconds(uint32_t us)
     return ms > UINT16_MAX ? UINT16_MAX : (uint16_t)ms;
 }
 
+/* Adds one, up to the top. The counters are behind the counts below A. */
+static void count(struct in_place *m, unsigned at)
+{
+    if (m->active_window.count[at] != UINT32_MAX)
+        m->active_window.count[at]++;
+}
+
+/* The answer to a completion that is counted for counter n, and does no more. */
+#define COUNTED(n) ((uint64_t)(n) << AT(counter) | UINT64_C(1) << AT(counted))
+
+#ifdef LIMITS
+/* What a command adds to the place of its count: its kind's number from 0 on, or NO_KIND. The table has the exclusive or
+ * with NO_KIND, so that what it does not name is of no kind. */
+static unsigned addend(unsigned command)
+{
+    static const uint8_t table[2 * DEALLOCATE] = {
+        [READ] = NO_KIND ^ 0, [READ + DEALLOCATE] = NO_KIND ^ 0,
+        [WRITE] = NO_KIND ^ 1, [WRITE + DEALLOCATE] = NO_KIND ^ 1,
+        [WRITE_ZEROES + DEALLOCATE] = NO_KIND ^ 2, [DATASET_MANAGEMENT + DEALLOCATE] = NO_KIND ^ 2
+    };
+
+    return table[command] ^ NO_KIND;
+}
+
+/* By the place of the count. */
+static const uint64_t only_counted[COUNTS] = {
+    0, 0, 0, COUNTED(0), COUNTED(1), COUNTED(2), COUNTED(3), COUNTED(4), COUNTED(5), COUNTED(6), COUNTED(7), COUNTED(8),
+    COUNTED(9), COUNTED(10), COUNTED(11)
+};
+
+/* With settings in force, a debug log is due at a counter's first completion in a window or not at all. */
+static uint64_t beyond_limit(struct in_place *m, unsigned n, uint16_t ms)
+{
+    uint64_t loaded, logged;
+
+    if (n >= LATENCY_MONITOR_COUNTERS)
+        return 0;
+    loaded = load(m, n, ms);
+    logged = debug(m, n, ms);
+    if (loaded)
+        m->limit_us[KINDS + n] = m->mode >> n & 1 && ms != UINT16_MAX ? 1000 * (ms + 1u) : UINT32_MAX;
+    return COUNTED(n) | loaded << AT(loaded) | logged << AT(debug);
+}
+
+/* One way for completions below A and others: only one in many is beyond its limit. */
+static uint64_t kind_completed(struct in_place *m, unsigned kind, uint32_t us)
+{
+    unsigned at = 3 * ((us >= m->threshold_us[0]) + bucket_of(m, us)) + kind;
+
+    count(m, at);
+    if (us >= m->limit_us[at])
+        return beyond_limit(m, at - KINDS, milliseconds(us));
+    return only_counted[at];
+}
+#else
+static uint64_t kind_completed(struct in_place *m, unsigned kind, uint32_t us)
+{
+    uint64_t loaded, logged;
+    unsigned n;
+    uint16_t ms;
+
+    if (us < m->threshold_us[0]) {
+        count(m, kind);
+        return 0;
+    }
+    n = 3 * bucket_of(m, us) + kind;
+    count(m, KINDS + n);
+    ms = milliseconds(us);
+    loaded = load(m, n, ms);
+    logged = debug(m, n, ms);
+    return COUNTED(n) | loaded << AT(loaded) | logged << AT(debug);
+}
+#endif
+
 /* The answer as a number: that is made in a register, where gcc takes a small struct through memory. */
 static uint64_t completed(struct in_place *m, uint16_t command, uint32_t us)
 {
-    unsigned kind, bucket = 3, n;
-    uint64_t loaded, logged;
-    uint16_t ms;
-
-    if (!m->enabled || (uint8_t)command > DATASET_MANAGEMENT || kinds[command] == 0)
+    if (!m->enabled)
         return 0;
-    kind = kinds[command] - 1u;
-    if (us < m->threshold_us[0]) {
-        m->active_below_a[kind] += m->active_below_a[kind] != UINT32_MAX;
-        return 0;
-    }
-    while (us < m->threshold_us[bucket])
-        bucket--;
-    n = 3 * bucket + kind;
-    ms = milliseconds(us);
-    loaded = count(m, n, ms);
-    logged = debug(m, n, ms);
-    return (uint64_t)n << AT(counter) | UINT64_C(1) << AT(counted) | loaded << AT(loaded)
-        | logged << AT(debug);
+#ifdef LIMITS
+    return kind_completed(m, addend(command), us);
+#else
+    return kind_of(command) == 0 ? 0 : kind_completed(m, kind_of(command) - 1, us);
+#endif
 }
 
 /* Opcode and attribute, the byte after it, as one number: one index into the table of kinds. */
@@ -224,19 +317,16 @@ static uint8_t stamp_reason(const struct in_place *m, unsigned n, uint16_t ms)
 
 uint8_t in_place_reason(const struct in_place *m, struct latency_monitor_command command)
 {
-    uint16_t number = command_number(&command);
+    unsigned kind = kind_of(command_number(&command));
     uint32_t us = command.latency;
-    unsigned bucket = 3;
 
     if (!m->enabled)
         return LATENCY_MONITOR_REASON_DISABLED;
-    if (command.opcode > DATASET_MANAGEMENT || kinds[number] == 0)
+    if (kind == 0)
         return LATENCY_MONITOR_REASON_OF_NO_KIND;
     if (us < m->threshold_us[0])
         return LATENCY_MONITOR_REASON_BELOW_A;
-    while (us < m->threshold_us[bucket])
-        bucket--;
-    return stamp_reason(m, 3 * bucket + kinds[number] - 1u, milliseconds(us));
+    return stamp_reason(m, 3 * bucket_of(m, us) + kind - 1, milliseconds(us));
 }
 
 struct latency_monitor_elapsed_answer in_place_elapsed(struct in_place *m, uint32_t ms)
@@ -260,9 +350,7 @@ struct latency_monitor_elapsed_answer in_place_elapsed(struct in_place *m, uint3
     if (++m->timer == m->timer_threshold) {
         m->timer = 0;
         m->static_window = m->active_window;
-        empty(&m->active_window);
-        memcpy(m->static_below_a, m->active_below_a, sizeof m->static_below_a);
-        memset(m->active_below_a, 0, sizeof m->active_below_a);
+        empty_active(m);
         answer.ended = true;
     }
     return answer;
@@ -284,22 +372,27 @@ uint8_t in_place_power_up(struct in_place *m)
     return LATENCY_MONITOR_ACCEPTED;
 }
 
+static struct latency_monitor_below_a below_a(const struct in_place_window *w)
+{
+    return (struct latency_monitor_below_a){w->count[0], w->count[1], w->count[2]};
+}
+
 struct latency_monitor_below_a in_place_active_below_a(const struct in_place *m)
 {
-    return (struct latency_monitor_below_a){m->active_below_a[0], m->active_below_a[1], m->active_below_a[2]};
+    return below_a(&m->active_window);
 }
 
 struct latency_monitor_below_a in_place_static_below_a(const struct in_place *m)
 {
-    return (struct latency_monitor_below_a){m->static_below_a[0], m->static_below_a[1], m->static_below_a[2]};
+    return below_a(&m->static_window);
 }
 
 static void put_window(uint8_t *p, const struct in_place_window *w)
 {
     for (int b = 0; b < 4; b++) {
-        put32(p + 16 * b + 4, w->count[3 * b + 2]);
-        put32(p + 16 * b + 8, w->count[3 * b + 1]);
-        put32(p + 16 * b + 12, w->count[3 * b]);
+        put32(p + 16 * b + 4, w->count[KINDS + 3 * b + 2]);
+        put32(p + 16 * b + 8, w->count[KINDS + 3 * b + 1]);
+        put32(p + 16 * b + 12, w->count[KINDS + 3 * b]);
     }
     for (int n = 0; n < LATENCY_MONITOR_COUNTERS; n++) {
         put64(p + 64 + 8 * (LATENCY_MONITOR_COUNTERS - 1 - n), w->stamp[n]);
@@ -406,9 +499,9 @@ static bool page_fits(const uint8_t *p)
 static void get_window(struct in_place_window *w, const uint8_t *p)
 {
     for (int b = 0; b < 4; b++) {
-        w->count[3 * b + 2] = get32(p + 16 * b + 4);
-        w->count[3 * b + 1] = get32(p + 16 * b + 8);
-        w->count[3 * b] = get32(p + 16 * b + 12);
+        w->count[KINDS + 3 * b + 2] = get32(p + 16 * b + 4);
+        w->count[KINDS + 3 * b + 1] = get32(p + 16 * b + 8);
+        w->count[KINDS + 3 * b] = get32(p + 16 * b + 12);
     }
     for (int n = 0; n < LATENCY_MONITOR_COUNTERS; n++) {
         w->stamp[n] = get64(p + 64 + 8 * (LATENCY_MONITOR_COUNTERS - 1 - n));

@@ -1,6 +1,11 @@
 /*
  * The latency monitor in C, its record changed in place: what the product is measured against. The calls are those of
- * latency_monitor.h, on a record and a reading of its own.
+ * latency_monitor.h, on a record and a reading of its own. No form of the code is the fastest everywhere:
+ *   as it is      the bucket is found by branches, which is quick where their order is learnt
+ *   BRANCH_FREE   the bucket is a sum of comparisons, and the table of kinds is asked without a test before it
+ *   LIMITS        the product's stretch given to C: the bucket is a sum of comparisons, below A included; each counter
+ *                 has a latency from which on a completion has more to do than to count; and what has no kind is
+ *                 counted where nobody looks
  */
 #ifndef IN_PLACE_H
 #define IN_PLACE_H
@@ -9,16 +14,25 @@
 
 enum { KINDS = 3 };
 
+/* The counts of a window: those below A, the counters, and with LIMITS those of no kind. */
+#ifdef LIMITS
+enum { NO_KIND = KINDS + LATENCY_MONITOR_COUNTERS, COUNTS = NO_KIND + 13 };
+#else
+enum { COUNTS = KINDS + LATENCY_MONITOR_COUNTERS };
+#endif
+
 struct in_place_window {
     uint64_t stamp[LATENCY_MONITOR_COUNTERS];
-    uint32_t count[LATENCY_MONITOR_COUNTERS];
+    uint32_t count[COUNTS];
     uint16_t latency[LATENCY_MONITOR_COUNTERS];
     uint16_t units; /* bit n for counter n */
 };
 
 struct in_place {
     uint32_t threshold_us[4];
-    uint32_t active_below_a[KINDS]; /* beside what is read for them */
+#ifdef LIMITS
+    uint32_t limit_us[COUNTS]; /* from which on a completion may do more than count */
+#endif
     uint8_t thresholds[4];
     uint16_t timer_threshold;
     uint16_t mode;
@@ -38,7 +52,6 @@ struct in_place {
     uint64_t load_time[LATENCY_MONITOR_COUNTERS]; /* the time at the stamp's last load */
     struct in_place_window active_window;
     struct in_place_window static_window;
-    uint32_t static_below_a[KINDS];
 };
 
 /* What a page shows. */

@@ -1,5 +1,5 @@
 /* One side: its record and its reading, and the loops over its calls. It is compiled for each side, with SIDE as the
- * side's name. */
+ * side's name and TITLE as what tables call it. */
 
 #include "side.h"
 
@@ -61,14 +61,14 @@ static uint64_t once(const struct stroke *s)
     }
 }
 
-#define LAP(name, answer)                               \
-    static uint64_t name(const struct work *w)          \
-    {                                                   \
-        uint64_t sum = 0;                               \
-                                                        \
-        for (size_t i = 0, n = w->calls; i < n; i++)    \
-            sum += (answer);                            \
-        return sum;                                     \
+#define LAP(name, answer)                                \
+    static uint64_t name(const struct work *w, size_t i) \
+    {                                                    \
+        uint64_t sum = 0;                                \
+                                                         \
+        for (size_t end = i + w->calls; i < end; i++)    \
+            sum += (answer);                             \
+        return sum;                                      \
     }
 
 LAP(empty_completion_lap, completion_number(empty_completion(&record, w->commands[i])))
@@ -86,9 +86,9 @@ LAP(page_lap, CALL(page)(&record, page, sizeof page))
 LAP(read_page_lap, CALL(read_page)(&reading, w->pages[i].bytes, sizeof w->pages[i].bytes))
 LAP(settings_back_lap, CALL(settings_back)(&record, settings, sizeof settings))
 
-static uint64_t run(const struct work *w, size_t laps)
+static uint64_t run(const struct work *w, size_t first, size_t laps)
 {
-    static uint64_t (*const lap[CALLS])(const struct work *) = {
+    static uint64_t (*const lap[CALLS])(const struct work *, size_t) = {
         [EMPTY_COMPLETION] = empty_completion_lap, [EMPTY_NUMBER] = empty_number_lap, [NEW] = new_lap,
         [CONFIGURE] = configure_lap, [COMPLETION] = completion_lap, [ELAPSED] = elapsed_lap,
         [SET_CLOCK] = set_clock_lap, [POWER_UP] = power_up_lap,
@@ -97,10 +97,10 @@ static uint64_t run(const struct work *w, size_t laps)
     };
     uint64_t sum = 0;
 
-    while (laps--) {
+    for (size_t number = first; number < first + laps; number++) {
         if (w->lap_ms > 0)
             sum += elapsed_number(CALL(elapsed)(&record, w->lap_ms)) << LAP_TIME_AT;
-        sum += lap[w->call](w);
+        sum += lap[w->call](w, number % w->orders * w->calls);
     }
     return sum;
 }
@@ -158,4 +158,4 @@ static uint8_t again(const struct log_page *p, uint8_t *written)
     return refusal;
 }
 
-const struct side SIDE = {sizeof record, once, run, show, below_a, again};
+const struct side SIDE = {TITLE, sizeof record, once, run, show, below_a, again};

@@ -27,6 +27,7 @@ struct work {
     const char *name;
     enum call call;
     size_t calls;
+    size_t orders; /* laps with inputs of their own, taken in turn */
     const struct latency_monitor_command *commands;
     const uint32_t *ms;
     const uint64_t *clocks;
@@ -60,9 +61,10 @@ struct below_a {
 
 /* An implementation, with a record and a reading of its own. */
 struct side {
+    const char *title;
     size_t record_size;
     uint64_t (*once)(const struct stroke *stroke);
-    uint64_t (*run)(const struct work *work, size_t laps);
+    uint64_t (*run)(const struct work *work, size_t first, size_t laps); /* the first lap's number, and how many */
     void (*show)(uint8_t *page, uint8_t *settings);
     struct below_a (*below_a)(void);
     uint8_t (*again)(const struct log_page *page, uint8_t *written); /* reads a page, and writes what was read */

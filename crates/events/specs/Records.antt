@@ -2,16 +2,19 @@
 use mathlib.Core.Bool.{Bool, cond, not, _&&_}
 use mathlib.Core.List.{List, [], _++_}
 use mathlib.Core.Option.{Option, none, some}
-use Prim.Native.Nat.{ℕ, zero, suc, _-_, _*_, _/_, _%_}
+use mathlib.Core.Path.{_≡_}
+use Prim.Native.Nat.{ℕ, zero, suc, _-_, _*_, _/_, _%_, _<_}
 use lib.Dec.{eqb, leb}
 use lib.ListN.{length, getD, take, drop, replicate}
 use Rattle.endian.specs.Bytes.{anySet}
 use Rattle.endian.specs.Loads.{number}
 use Rattle.monitor.specs.declared.commands.Command.{Command}
+use Rattle.monitor.specs.declared.passing.Passed.{Passed}
 use Rattle.monitor.specs.declared.record.Monitor.{Monitor}
 use Rattle.monitor.specs.Answers.{CallAnswer, refused, done, notCounted, counted, ended}
 use Rattle.monitor.specs.History.{Call, settings, completion, elapsed, clock, powerUp, History, playFrom, refusalOf}
 use Rattle.monitor.specs.History.{answerOf, found, andThen, orElse}
+use Rattle.monitor.specs.Passing.{standing, timeBy}
 use Rattle.events.specs.declared.answers.RecordAnswer.{RecordAnswer}
 use Rattle.events.specs.declared.answers.RecordAnswer.the-variants as answer
 use Rattle.events.specs.declared.files.Halt.{Halt}
@@ -98,6 +101,10 @@ saysRecord (answer.Ended e) = ended e
 unfoldable pub afterRecord : Monitor → List ℕ → Monitor
 afterRecord m r = playFrom m (andThen (callOf r) [])
 
+-- what a record makes of the clock and the timer, and whether it is accepted and changes these alone
+unfoldable pub timedBy : Monitor → List ℕ → Passed
+timedBy m r = found (standing m) (timeBy m) (callOf r)
+
 -- the call of a record that nothing turns away
 abbrev pub acceptedCall : List ℕ → Option Call
 acceptedCall r = found (callOf r) (λ refusal. none) (recordRefusal r)
@@ -132,6 +139,10 @@ pub record Refusal : Type 0 where
 abbrev pub refusalAt : ℕ → Option ℕ → Option Refusal
 refusalAt i none = none
 refusalAt i (some n) = some (record { index = i; number = n })
+
+-- nothing turns the first n records away
+abbrev pub NoneRefused : List ℕ → ℕ → Type 0
+NoneRefused s n = (i : ℕ) → i < n → recordRefusal (recordAt s i) ≡ none
 
 -- the first refused record among the n from record i on
 unfoldable pub firstRefusedFrom : List ℕ → (i n : ℕ) → Option Refusal

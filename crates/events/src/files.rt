@@ -5,11 +5,12 @@ ghost use Rattle.monitor.specs.Answers.{saysAnswer, unlessRefused, done};
 ghost use Rattle.monitor.specs.History.{playFrom};
 ghost use Rattle.events.specs.Records.{callsBefore, historyOf, firstRefused};
 ghost use Rattle.events.specs.Records.{acceptedRecords, refusalAt, saysHalt, endRefusal};
+use crate::answers;
+use crate::answers::RecordAnswer;
 use crate::records;
+use crate::stretch;
 use monitor::Answer;
-use monitor::ElapsedAnswer;
 use monitor::Monitor;
-use monitor::NOT_COUNTED;
 
 // Why a run stopped: at a refused record, with its number from 0 and the refusal, or at the end.
 pub enum Halt {
@@ -31,8 +32,7 @@ fn refused_at(monitor: Monitor, index: usize, number: u8) -> Stop
     Stop { monitor, halt }
 }
 
-// The whole records of a slice, up to the first that is refused. Completions and elapsed time are most of them, and
-// have a way of their own through the loop, for speed.
+// The whole records of a slice, up to the first that is refused: one by its call, and the stretch that follows it.
 pub fn run(m: Monitor, s: &[u8]) -> Stop
     ensures monitor { λ r. ⌜ r .monitor ≡ playFrom m (callsBefore (now (s .entry)) (acceptedRecords (now (s .entry)))) ⌝ }
     ensures halt { λ r. ⌜ saysHalt (r .halt) ≡ firstRefused (now (s .entry)) ⌝ }
@@ -41,83 +41,38 @@ pub fn run(m: Monitor, s: &[u8]) -> Stop
     let mut i = 0;
     while i < s.len() / records::RECORD {
         let from = records::RECORD * i;
-        let r = &s[from..from + records::RECORD];
-        if records::is_completion(r) {
-            let c = records::command(r);
-            let settings = monitor.settings;
-            // Most completions have no counter. They change the counts below threshold A at most, and are spared the
-            // call.
-            if c.counter(settings) == NOT_COUNTED {
-                let active = monitor.active_below_a;
-                let counts = c.counts_below_a(settings, active);
-                monitor.active_below_a = counts;
-                i += 1;
-            } else {
-                let o = monitor.completion(c);
-                monitor = o.next;
-                i += 1;
-            }
-        } else if records::is_elapsed(r) {
-            let o = records::elapsed(monitor, r);
-            monitor = o.next;
-            let answer = o.answer;
-            if let ElapsedAnswer::Refused(number) = answer {
-                return refused_at(monitor, i, number);
-            }
-            i += 1;
-        } else {
-            let o = records::other(monitor, r);
-            monitor = o.next;
-            let answer = o.answer;
-            if let Answer::Refused(number) = answer {
-                return refused_at(monitor, i, number);
-            }
-            i += 1;
+        let to = from + records::RECORD;
+        let o = answers::apply(monitor, &s[from..to]);
+        let answer = o.answer;
+        if let RecordAnswer::Refused(number) = answer {
+            return refused_at(o.next, i, number);
         }
+        let quick = stretch::stretch(o.next, &s[to..]);
+        monitor = quick.monitor;
+        i = i + 1 + quick.records;
     }
     let halt = Halt::End;
     Stop { monitor, halt }
 }
 
-// All whole records of a slice; those that are refused are passed over. Completions without a counter, and elapsed time
-// that ends no window, change few fields, and these alone are written, for speed.
+// All whole records of a slice; those that are refused are passed over.
 pub fn replay(m: Monitor, s: &[u8]) -> Monitor
     ensures { λ r. ⌜ r ≡ playFrom m (historyOf (now (s .entry))) ⌝ }
 {
     let mut monitor = m;
     let mut i = 0;
-    while i < s.len() / records::RECORD {
+    loop {
         let from = records::RECORD * i;
-        let r = &s[from..from + records::RECORD];
-        if records::is_completion(r) {
-            let c = records::command(r);
-            let settings = monitor.settings;
-            if c.counter(settings) == NOT_COUNTED {
-                let active = monitor.active_below_a;
-                let counts = c.counts_below_a(settings, active);
-                monitor.active_below_a = counts;
-                i += 1;
-            } else {
-                let o = monitor.completion(c);
-                monitor = o.next;
-                i += 1;
+        let stop = run(monitor, &s[from..]);
+        monitor = stop.monitor;
+        let halt = stop.halt;
+        match halt {
+            Halt::Refused { index, number: _ } => {
+                i = i + index + 1;
             }
-        } else if records::is_elapsed(r) {
-            let p = records::passed(monitor, r);
-            if p.alone {
-                monitor.clock = p.clock;
-                monitor.timer = p.timer;
-                monitor.partial = p.partial;
-                i += 1;
-            } else {
-                let o = records::elapsed(monitor, r);
-                monitor = o.next;
-                i += 1;
+            Halt::End => {
+                break;
             }
-        } else {
-            let o = records::other(monitor, r);
-            monitor = o.next;
-            i += 1;
         }
     }
     monitor

@@ -4,6 +4,7 @@ mod blocks;
 mod explain;
 mod files;
 mod records;
+mod stretch;
 
 pub use answers::RecordAnswer;
 pub use answers::RecordOutcome;

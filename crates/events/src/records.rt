@@ -5,9 +5,9 @@ ghost use Prim.Native.Nat.{_+_, _≤_};
 ghost use lib.ListN.{length, replicate};
 ghost use Rattle.endian.specs.Bytes.{anySet};
 ghost use Rattle.monitor.specs.Answers.{saysAnswer, saysElapsed, refused};
-ghost use Rattle.monitor.specs.Record.{afterSettings, settingsAnswer, passedBy};
-ghost use Rattle.events.specs.Records.{unnamed, settingsBytes, commandOf, isCompletion, isElapsed};
-ghost use Rattle.events.specs.Records.{elapsedOf, afterRecord, recordAnswer};
+ghost use Rattle.monitor.specs.Record.{afterSettings, settingsAnswer};
+ghost use Rattle.events.specs.Records.{unnamed, settingsBytes, commandOf, isKind, isCompletion, isElapsed};
+ghost use Rattle.events.specs.Records.{afterRecord, timedBy, recordAnswer};
 use monitor::Answer;
 use monitor::Command;
 use monitor::ElapsedOutcome;
@@ -43,17 +43,16 @@ fn clear(r: &[u8], from: usize, to: usize, rest: usize) -> bool
     }
 }
 
-// Whether a record is a completion. Byte 2 is 0 or 1 and byte 3 zero where the two make a number of at most 1.
+// Whether a record is a completion. Byte 2 is 0 or 1 and byte 3 zero where the two make a number of at most 1. The bytes
+// from 8 on are parts of one sum, so that four at a time are loaded.
 pub(crate) fn is_completion(r: &[u8]) -> bool
     requires { ⌜ length (now r) ≡ 16 ⌝ }
     ensures { λ b. ⌜ b ≡ isCompletion (now (r .entry)) ⌝ }
 {
     if r[0] == COMPLETION {
-        if endian::load(&r[2..4]) <= 1 {
-            endian::load(&r[8..]) == 0
-        } else {
-            false
-        }
+        let attribute = endian::load(&r[2..4]);
+        let unnamed = endian::load(&r[8..12]) + endian::load(&r[12..]);
+        attribute + 2 * unnamed <= 1
     } else {
         false
     }
@@ -123,12 +122,32 @@ pub(crate) fn elapsed(m: Monitor, r: &[u8]) -> ElapsedOutcome
     m.elapsed(endian::load(&r[4..8]) as u32)
 }
 
-// What that time makes of the clock and the timer.
-pub(crate) fn passed(m: Monitor, r: &[u8]) -> Passed
-    requires { ⌜ length (now r) ≡ 16 ⌝ }
-    ensures { λ p. ⌜ p ≡ passedBy m (elapsedOf (now (r .entry))) ⌝ }
+// Whether a record is of a kind, with the bytes that the kind leaves unnamed clear.
+fn is_kind(r: &[u8], kind: u8, from: usize, to: usize, rest: usize) -> bool
+    requires { ⌜ (length (now r) ≡ 16) × (from ≤ to) × (to ≤ rest) × (rest ≤ 16) × (to ≤ from + 8) × (8 ≤ rest) ⌝ }
+    ensures { λ b. ⌜ b ≡ isKind kind from to rest (now (r .entry)) ⌝ }
 {
-    m.passed(endian::load(&r[4..8]) as u32)
+    if clear(r, from, to, rest) {
+        r[0] == kind
+    } else {
+        false
+    }
+}
+
+// What a record that is no completion makes of the clock and the timer, where it changes these alone.
+pub(crate) fn timed(m: Monitor, r: &[u8]) -> Passed
+    requires { ⌜ length (now r) ≡ 16 ⌝ }
+    ensures { λ p. ⌜ p ≡ timedBy m (now (r .entry)) ⌝ }
+{
+    if is_elapsed(r) {
+        m.passed(endian::load(&r[4..8]) as u32)
+    } else if is_kind(r, CLOCK, 1, 4, 12) {
+        m.clocked(endian::load(&r[4..12]))
+    } else if is_kind(r, POWER_UP, 1, 8, 8) {
+        m.powered()
+    } else {
+        m.standing()
+    }
 }
 
 // No call.

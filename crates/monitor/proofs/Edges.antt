@@ -12,7 +12,7 @@ use Rattle.logpage.specs.Fields.{emptyWindow, noDebugLog}
 use Rattle.logpage.specs.Page.{headBytes, windowsBytes, pageBytes}
 use Rattle.logpage.specs.declared.page.LogPage.{LogPage}
 use Rattle.monitor.specs.declared.record.Monitor.{Monitor}
-use Rattle.monitor.specs.Commands.{kindOf, highestBelow, bucketOf, counterOf, millisecondsOf}
+use Rattle.monitor.specs.Commands.{kindOf, highest, bucketOf, counterOf, millisecondsOf}
 use Rattle.monitor.specs.Counting.{loads, countedIn, triggers}
 use Rattle.monitor.specs.Edges.{enabledWith, read, usual, elapsedAnswers, bucket, measures, readAnswer, Holds}
 use Rattle.monitor.specs.Edges.{EdgesHold}
@@ -74,7 +74,7 @@ measured-row us b ms row =
     by-usual (λ m. getD (afterCompletion m (read us) .«active_window» .latencies) (3 * b) 0) ms row
 
 equal-row : Holds (bucket (1 ∷ 1 ∷ 3 ∷ 9 ∷ []) 10000 (some 1))
-unfolding completionAnswer counterOf bucketOf highestBelow kindOf millisecondsOf loads triggers emptyWindow noDebugLog
+unfolding completionAnswer counterOf bucketOf highest kindOf millisecondsOf loads triggers emptyWindow noDebugLog
 equal-row = ap (λ m. completionAnswer m (read 10000)) equal-record
 
 -- P11, P12: the places on the page
@@ -87,7 +87,7 @@ unfolding pageBytes headBytes windowsBytes blockBytes buckets downward fields lo
 stamp-of-two p = refl
 
 pub edges-hold : EdgesHold
-unfolding completionAnswer afterCompletion counterOf bucketOf highestBelow kindOf millisecondsOf loads triggers countedIn elapsedAnswers elapsedAnswer afterElapsed elapsedRefusal ticked emptyWindow noDebugLog
+unfolding completionAnswer afterCompletion counterOf bucketOf highest kindOf millisecondsOf loads triggers countedIn elapsedAnswers elapsedAnswer afterElapsed elapsedRefusal ticked emptyWindow noDebugLog
 edges-hold = (
   counted-row 4999 none refl,
   (

@@ -3,3 +3,4 @@ pub mod Edges
 pub mod Counters
 pub mod Time
 pub mod Order
+pub mod Counts

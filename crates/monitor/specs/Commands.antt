@@ -9,8 +9,6 @@ use Rattle.logpage.specs.declared.Settings.{Settings}
 use Rattle.monitor.specs.declared.commands.Command.{Command}
 use Rattle.monitor.specs.declared.commands.Kind.{Kind}
 use Rattle.monitor.specs.declared.commands.Kind.the-variants.{Read, Write, Deallocate, Other}
-use Rattle.monitor.specs.declared.commands.Bucket.{Bucket}
-use Rattle.monitor.specs.declared.commands.Bucket.the-variants as bucket
 
 -- 01, The monitor's record: each kind's number; other commands have none
 abbrev pub saysKind : Kind → Option ℕ
@@ -19,21 +17,17 @@ saysKind Write = some 1
 saysKind Deallocate = some 2
 saysKind Other = none
 
--- 01, The monitor's record: the bucket's number; below threshold A there is none
-abbrev pub saysBucket : Bucket → Option ℕ
-saysBucket (bucket.At b) = some b
-saysBucket bucket.Below = none
-
 -- 02, Ticket 4: Dataset Management, 9, and Write Zeroes, 8, are Deallocate with the deallocate attribute or bit
 abbrev pub kindByAttribute : ℕ → Bool → Option ℕ
 kindByAttribute opcode attribute = cond ((eqb opcode 9 || eqb opcode 8) && attribute) (some 2) none
 
 -- 01, A completion, with 02, Ticket 4: the kind of a command; a Read or Write is not asked for the attribute
+abbrev pub kindFor : ℕ → Bool → Option ℕ
+kindFor opcode attribute =
+    cond (eqb opcode 2) (some 0) (cond (eqb opcode 1) (some 1) (kindByAttribute opcode attribute))
+
 unfoldable pub kindOf : Command → Option ℕ
-kindOf c =
-    cond (eqb (c .opcode) 2) (some 0)
-    (cond (eqb (c .opcode) 1) (some 1)
-    (kindByAttribute (c .opcode) (c .deallocate)))
+kindOf c = kindFor (c .opcode) (c .deallocate)
 
 -- 01, A completion: whether a command is of a kind that counts at all
 abbrev isThere : Option ℕ → Bool
@@ -47,14 +41,26 @@ hasKind c = isThere (kindOf c)
 abbrev pub reaches : ℕ → ℕ → Bool
 reaches us v = leb (5000 * (v + 1)) us
 
--- the highest bucket below n whose threshold is reached
-unfoldable pub highestBelow : List ℕ → ℕ → ℕ → Option ℕ
-highestBelow thresholds us zero = none
-highestBelow thresholds us (suc b) = cond (reaches us (getD thresholds b 0)) (some b) (highestBelow thresholds us b)
+-- the highest number below n that a test holds of
+unfoldable pub highest : (ℕ → Bool) → ℕ → Option ℕ
+highest test zero = none
+highest test (suc b) = cond (test b) (some b) (highest test b)
+
+-- the highest bucket below n whose threshold is reached: by which are, and by thresholds and latency
+abbrev pub highestReached : List Bool → ℕ → Option ℕ
+highestReached reached n = highest (λ (b : ℕ). getD reached b false) n
+
+abbrev pub highestBelow : List ℕ → ℕ → ℕ → Option ℕ
+highestBelow thresholds us n = highest (λ (b : ℕ). reaches us (getD thresholds b 0)) n
 
 -- 01, A completion: the one bucket of a latency, tried from D, bucket 3, down to A, bucket 0
 unfoldable pub bucketOf : List ℕ → Command → Option ℕ
 bucketOf thresholds c = highestBelow thresholds (c .latency) 4
+
+-- the bucket as a number: four is that of none
+abbrev pub bucketNumber : Option ℕ → ℕ
+bucketNumber (some b) = b
+bucketNumber none = 4
 
 -- 01, The monitor's record: the counter of a bucket and a kind, by number (document 01: pair, pair number)
 abbrev pub counterAt : Option ℕ → Option ℕ → Option ℕ

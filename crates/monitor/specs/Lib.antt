@@ -5,8 +5,10 @@ pub mod Timer
 pub mod Refusals
 pub mod Answers
 pub mod Record
+pub mod Tally
 pub mod Report
 pub mod History
+pub mod Passing
 pub mod Reasons
 pub mod Facts
 pub mod Edges

@@ -1,5 +1,5 @@
 -- The monitor's record, and what each call makes of it and answers.
-use mathlib.Core.Bool.{Bool, true, false, cond, not}
+use mathlib.Core.Bool.{Bool, true, false, cond}
 use mathlib.Core.List.{List}
 use mathlib.Core.Option.{Option, none, some}
 use Prim.Native.Nat.{ℕ, _-_}
@@ -8,7 +8,6 @@ use lib.ListN.{getD, set, replicate}
 use Rattle.logpage.specs.Fields.{noSettings, emptyWindow, noDebugLog}
 use Rattle.monitor.specs.declared.commands.Command.{Command}
 use Rattle.monitor.specs.declared.record.Monitor.{Monitor}
-use Rattle.monitor.specs.declared.record.Passed.{Passed}
 use Rattle.monitor.specs.declared.timer.Tick.{Tick}
 use Rattle.monitor.specs.Answers.{CallAnswer, done, notCounted, counted, ended, unlessRefused}
 use Rattle.monitor.specs.Commands.{counterOf, belowAOf, millisecondsOf}
@@ -88,7 +87,7 @@ loadsAt m n ms =
     (m .settings .«minimum_window»)
 
 -- whether a completion for counter n takes a debug log
-abbrev triggersAt : Monitor → ℕ → Bool
+abbrev pub triggersAt : Monitor → ℕ → Bool
 triggersAt m n = triggers (bit (m .settings .trigger) n) (m .debug .stamp)
 
 -- the record after a completion of so many ms that counts for counter n
@@ -144,7 +143,7 @@ unfoldable pub completionAnswer : Monitor → Command → CallAnswer
 completionAnswer m c = counterAnswer (counterOf (m .settings) c) m (millisecondsOf c)
 
 -- the timer after elapsed time, and whether the window ends
-abbrev tickedBy : Monitor → ℕ → Tick
+abbrev pub tickedBy : Monitor → ℕ → Tick
 tickedBy m ms =
     ticked (m .settings .enabled) (m .settings .«timer_threshold») (m .timer) (m .partial) ms
 
@@ -173,15 +172,6 @@ afterElapsed m ms = untouchedIf (elapsedRefusal ms) m (afterTime m ms)
 
 unfoldable pub elapsedAnswer : Monitor → ℕ → CallAnswer
 elapsedAnswer m ms = unlessRefused (elapsedRefusal ms) (ended (tickedBy m ms .expired))
-
--- what elapsed time makes of the clock and the timer, and whether it is accepted and changes these alone: it does where
--- the active window goes on
-unfoldable pub passedBy : Monitor → ℕ → Passed
-passedBy m ms =
-    let t : Tick = tickedBy m ms in
-    untouchedIf (elapsedRefusal ms)
-    (record { clock = m .clock; timer = m .timer; partial = m .partial; alone = false })
-    (record { clock = grown (m .clock) ms; timer = t .timer; partial = t .partial; alone = not (t .expired) })
 
 -- the record with another clock; the windows, and the times of the active one and of its loads, stay
 abbrev withClock : Monitor → ℕ → Bool → Monitor

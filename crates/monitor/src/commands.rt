@@ -1,10 +1,9 @@
 // A completed command: the counter that it counts for, whether it is below threshold A, and its latency in ms.
 ghost use mathlib.Core.Path.{_≡_};
-ghost use mathlib.Core.Option.{some};
-ghost use Prim.Native.Nat.{_<_};
-ghost use Rattle.monitor.specs.Commands.{kindByAttribute, kindOf, hasKind, reaches, bucketOf, counterAt};
-ghost use Rattle.monitor.specs.Commands.{counterOf, isBelowA, belowAOf, millisecondsOf, saysKind, saysBucket};
-ghost use Rattle.monitor.specs.Commands.{counterNumber, kindNumber};
+ghost use mathlib.Core.Bool.{true, false};
+ghost use Rattle.monitor.specs.Commands.{kindFor, kindOf, hasKind, reaches, bucketOf, counterOf, isBelowA};
+ghost use Rattle.monitor.specs.Commands.{belowAOf, millisecondsOf, saysKind, bucketNumber, counterNumber};
+ghost use Rattle.monitor.specs.Commands.{kindNumber, highestReached};
 ghost use Rattle.monitor.specs.Counting.{countedBelowA};
 use crate::counting;
 use logpage::Settings;
@@ -27,56 +26,64 @@ pub enum Kind {
     Other,
 }
 
-// The bucket of a latency, 0 to 3; below threshold A there is none.
-pub enum Bucket {
-    At(u8),
-    Below,
-}
-
 // There are twelve counters; this is the number of none of them.
-pub const NOT_COUNTED: u16 = 12;
+pub(crate) const NOT_COUNTED: u16 = 12;
+
+// There are four buckets; this is the number of none of them.
+const NO_BUCKET: u16 = 4;
 
 // There are three kinds; this is the number of none of them.
-const NO_KIND: u16 = 3;
+pub(crate) const NO_KIND: u16 = 3;
 
 // Whether a latency reaches a threshold, whose byte v means 5 x (v + 1) ms.
-fn reaches(latency: u32, threshold: u8) -> bool
+pub(crate) fn reaches(latency: u32, threshold: u8) -> bool
     ensures { λ r. ⌜ r ≡ reaches latency threshold ⌝ }
 {
     5000 * (threshold as u32 + 1) <= latency
 }
 
-// The kind of a command that is neither Read nor Write, by its opcode and its deallocate attribute or bit.
-fn kind_by_attribute(opcode: u8, attribute: bool) -> Kind
-    ensures { λ r. ⌜ saysKind r ≡ kindByAttribute opcode attribute ⌝ }
+// The kind by opcode, with the deallocate attribute or bit.
+fn kind_with(opcode: u8) -> Kind
+    ensures { λ r. ⌜ saysKind r ≡ kindFor opcode true ⌝ }
 {
-    if attribute {
-        match opcode {
-            9 => Kind::Deallocate,
-            8 => Kind::Deallocate,
-            _ => Kind::Other,
-        }
-    } else {
-        Kind::Other
+    match opcode {
+        2 => Kind::Read,
+        1 => Kind::Write,
+        9 => Kind::Deallocate,
+        8 => Kind::Deallocate,
+        _ => Kind::Other,
     }
 }
 
-// The number of the counter of a bucket and a kind.
-fn counter_at(bucket: u8, kind: Kind) -> u16
-    requires { ⌜ bucket < 4 ⌝ }
-    ensures { λ r. ⌜ r ≡ counterNumber (counterAt (some bucket) (saysKind kind)) ⌝ }
+// The kind by opcode, without it.
+fn kind_without(opcode: u8) -> Kind
+    ensures { λ r. ⌜ saysKind r ≡ kindFor opcode false ⌝ }
 {
-    let read = 3 * (bucket as u16);
-    match kind {
-        Kind::Read => read,
-        Kind::Write => read + 1,
-        Kind::Deallocate => read + 2,
-        Kind::Other => NOT_COUNTED,
+    match opcode {
+        2 => Kind::Read,
+        1 => Kind::Write,
+        _ => Kind::Other, // 9 and 8 too
+    }
+}
+
+// The number of the highest bucket whose threshold is reached, or NO_BUCKET.
+fn highest(reached: [bool; 4]) -> u16
+    ensures { λ r. ⌜ r ≡ bucketNumber (highestReached reached 4) ⌝ }
+{
+    let mut b: u16 = 4;
+    loop {
+        if b == 0 {
+            break NO_BUCKET;
+        }
+        b -= 1;
+        if reached[b as usize] {
+            break b;
+        }
     }
 }
 
 // The number of a kind.
-fn kind_number(kind: Kind) -> u16
+pub(crate) fn kind_number(kind: Kind) -> u16
     ensures { λ r. ⌜ r ≡ kindNumber (saysKind kind) ⌝ }
 {
     match kind {
@@ -88,16 +95,15 @@ fn kind_number(kind: Kind) -> u16
 }
 
 impl Command {
-    // The kind of the command. Reads and Writes are most of them, and are not asked for the attribute.
+    // The kind of the command. Both matches are made before one is taken, so that no branch is left for a processor to
+    // guess.
     pub(crate) fn kind(self) -> Kind
         ensures { λ r. ⌜ saysKind r ≡ kindOf self ⌝ }
     {
         let opcode = self.opcode;
-        match opcode {
-            2 => Kind::Read,
-            1 => Kind::Write,
-            _ => kind_by_attribute(opcode, self.deallocate),
-        }
+        let with = kind_with(opcode);
+        let without = kind_without(opcode);
+        if self.deallocate { with } else { without }
     }
 
     // Whether the command is of a kind that has counters.
@@ -107,21 +113,19 @@ impl Command {
         kind_number(self.kind()) < NO_KIND
     }
 
-    // The highest bucket whose threshold the latency reaches.
-    pub(crate) fn bucket(self, thresholds: [u8; 4]) -> Bucket
-        ensures { λ r. ⌜ saysBucket r ≡ bucketOf thresholds self ⌝ }
+    // The number of the latency's bucket, or NO_BUCKET. All four thresholds are compared before the search, so that it
+    // has few branches left for a processor to guess.
+    fn bucket(self, t: [u8; 4]) -> u16
+        ensures { λ r. ⌜ r ≡ bucketNumber (bucketOf t self) ⌝ }
     {
-        let latency = self.latency;
-        let mut b: u8 = 4;
-        loop {
-            if b == 0 {
-                break Bucket::Below;
-            }
-            b -= 1;
-            if reaches(latency, thresholds[b as usize]) {
-                break Bucket::At(b);
-            }
-        }
+        let us = self.latency;
+        let reached = [
+            reaches(us, t[0]),
+            reaches(us, t[1]),
+            reaches(us, t[2]),
+            reaches(us, t[3]),
+        ];
+        highest(reached)
     }
 
     // The latency in ms.
@@ -133,16 +137,19 @@ impl Command {
     }
 
     // The counter that the completion counts for, or NOT_COUNTED. Most completions are below threshold A, so that is
-    // asked first.
-    pub fn counter(self, s: Settings) -> u16
+    // asked first; a latency that reaches it has a bucket.
+    pub(crate) fn counter(self, s: Settings) -> u16
         ensures { λ r. ⌜ r ≡ counterNumber (counterOf s self) ⌝ }
     {
         if s.enabled {
             let thresholds = s.thresholds;
             if reaches(self.latency, thresholds[0]) {
-                match self.bucket(thresholds) {
-                    Bucket::At(b) => counter_at(b, self.kind()),
-                    Bucket::Below => NOT_COUNTED,
+                let bucket = self.bucket(thresholds);
+                let kind = kind_number(self.kind());
+                if kind < NO_KIND {
+                    3 * bucket + kind
+                } else {
+                    NOT_COUNTED
                 }
             } else {
                 NOT_COUNTED
@@ -164,17 +171,12 @@ impl Command {
         }
     }
 
-    // The counts below threshold A, by kind, after the completion. One of no kind skips the write, which is quicker.
-    pub fn counts_below_a(self, s: Settings, counts: [u32; 3]) -> [u32; 3]
+    // The counts below threshold A, by kind, after the completion.
+    pub(crate) fn counts_below_a(self, s: Settings, counts: [u32; 3]) -> [u32; 3]
         ensures { λ r. ⌜ r ≡ countedBelowA (belowAOf s self) counts ⌝ }
     {
         if self.is_below_a(s) {
-            let kind = kind_number(self.kind());
-            if kind < NO_KIND {
-                counting::counted_below_a(counts, kind)
-            } else {
-                counts
-            }
+            counting::counted_below_a(counts, kind_number(self.kind()))
         } else {
             counts
         }

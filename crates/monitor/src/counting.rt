@@ -4,7 +4,7 @@ ghost use mathlib.Core.Path.{_≡_};
 ghost use mathlib.Core.Bool.{cond};
 ghost use Prim.Native.Nat.{_-_, _^_, _<_};
 ghost use lib.Dec.{ltb};
-ghost use Rattle.monitor.specs.Counting.{bit, onceMore, onceMoreAt, larger, waited, exceeds};
+ghost use Rattle.monitor.specs.Counting.{bit, onceMore, onceMoreAt, larger, waited, exceeds, loads};
 ghost use Rattle.monitor.specs.Counting.{triggers, debugLog};
 use logpage::DebugLog;
 use logpage::UNSET;
@@ -28,7 +28,7 @@ fn one_bit(n: usize) -> u16
 }
 
 // A flag as a number.
-fn one_if(b: bool) -> u32
+pub(crate) fn one_if(b: bool) -> u32
     ensures { λ r. ⌜ r ≡ cond b 1 0 ⌝ }
 {
     if b { 1 } else { 0 }
@@ -57,7 +57,7 @@ pub(crate) fn counted_at(mut counters: [u32; 12], n: u16) -> [u32; 12]
 }
 
 // As `counted_if`, with a branch on the top: for three counts that takes less, for twelve more.
-fn counted_once(count: u32, here: bool) -> u32
+pub(crate) fn counted_once(count: u32, here: bool) -> u32
     ensures { λ r. ⌜ r ≡ cond here (onceMore count) count ⌝ }
 {
     if count < COUNTER_TOP {
@@ -108,6 +108,27 @@ pub(crate) fn exceeds(latency: u16, loaded: u64, ms: u16, minimum: u8, time: u64
 {
     if larger(latency, ms) {
         waited(loaded, time, minimum)
+    } else {
+        false
+    }
+}
+
+// Whether a completion of `ms` loads a stamp: an unset one, or one in mode largest.
+pub(crate) fn loads(
+    stamp: u64,
+    latency: u16,
+    loaded: u64,
+    ms: u16,
+    largest: bool,
+    minimum: u8,
+    time: u64,
+) -> bool
+    ensures { λ r. ⌜ r ≡ loads stamp latency (time - loaded) ms largest minimum ⌝ }
+{
+    if stamp == UNSET {
+        true
+    } else if largest {
+        exceeds(latency, loaded, ms, minimum, time)
     } else {
         false
     }

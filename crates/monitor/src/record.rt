@@ -3,7 +3,7 @@ ghost use mathlib.Core.Path.{_≡_};
 ghost use Prim.Native.Nat.{_<_};
 ghost use Rattle.monitor.specs.Answers.{done, saysAnswer, saysCompletion, saysElapsed};
 ghost use Rattle.monitor.specs.Record.{newMonitor, afterSettings, settingsAnswer, afterCompletion, completionAnswer};
-ghost use Rattle.monitor.specs.Record.{afterElapsed, elapsedAnswer, passedBy, afterClock, clockAnswer, afterPowerUp};
+ghost use Rattle.monitor.specs.Record.{afterElapsed, elapsedAnswer, afterClock, clockAnswer, afterPowerUp};
 ghost use Rattle.monitor.specs.Record.{loadsAt};
 use crate::answers::CompletionAnswer;
 use crate::answers::ElapsedAnswer;
@@ -57,14 +57,6 @@ pub struct CompletionOutcome {
 pub struct ElapsedOutcome {
     pub next: Monitor,
     pub answer: ElapsedAnswer,
-}
-
-// What elapsed time makes of the clock and the timer, and whether it is accepted and changes these alone.
-pub struct Passed {
-    pub clock: u64,
-    pub timer: u16,
-    pub partial: u32,
-    pub alone: bool,
 }
 
 impl Monitor {
@@ -228,36 +220,6 @@ impl Monitor {
         } else {
             let answer = ElapsedAnswer::Refused(refusals::ELAPSED_TIME);
             ElapsedOutcome { next: self, answer }
-        }
-    }
-
-    // What elapsed time changes where it ends no window: for a loop over many records, in which all else then stays
-    // where it is.
-    pub fn passed(self, ms: u32) -> Passed
-        ensures { λ r. ⌜ r ≡ passedBy self ms ⌝ }
-    {
-        if ms <= timer::ELAPSED_TOP {
-            let t = timer::ticked(
-                self.settings.enabled,
-                self.settings.timer_threshold,
-                self.timer,
-                self.partial,
-                ms,
-            );
-            let clock = timer::grown(self.clock, ms);
-            Passed {
-                clock,
-                timer: t.timer,
-                partial: t.partial,
-                alone: !t.expired,
-            }
-        } else {
-            Passed {
-                clock: self.clock,
-                timer: self.timer,
-                partial: self.partial,
-                alone: false,
-            }
         }
     }
 

@@ -72,7 +72,7 @@ fn either_above(top: u16, a: u16, b: u16) -> bool
 }
 
 // Whether a threshold is above the next.
-fn unordered(t: [u8; 4]) -> bool
+pub(crate) fn unordered(t: [u8; 4]) -> bool
     ensures { λ r. ⌜ r ≡ unordered t ⌝ }
 {
     if t[1] < t[0] {

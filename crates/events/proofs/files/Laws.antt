@@ -8,7 +8,7 @@ use native.Mathlib.Numerals.{add-one}
 use native.Mathlib.Omega.{arith}
 use borrow.Author.Tests.{eq-eqb, ne-eqb}
 use lib.ListN.{length, take, drop, length-take, length-drop}
-use lib.Seq.{drop-drop}
+use lib.Seq.{drop-drop, take-all}
 use Rattle.monitor.specs.declared.record.Monitor.{Monitor}
 use Rattle.monitor.specs.Answers.{refused, done, unlessRefused}
 use Rattle.monitor.specs.History.{Call, settings, completion, elapsed, clock, powerUp, page, settingsBack, History}
@@ -16,7 +16,7 @@ use Rattle.monitor.specs.History.{belowA, after, playFrom, refusalOf, found, an
 use Rattle.monitor.specs.Record.{afterSettings, afterElapsed, afterClock}
 use Rattle.events.specs.Records.{endRefusal, callOf, recordRefusal, afterRecord, recordAt, wholeRecords}
 use Rattle.events.specs.Records.{callsBefore, historyOf}
-use Rattle.events.specs.Records.{Refusal, refusalAt, firstRefusedFrom, firstRefused, acceptedRecords}
+use Rattle.events.specs.Records.{Refusal, NoneRefused, refusalAt, firstRefusedFrom, firstRefused, acceptedRecords}
 
 -- a refused record leaves the monitor untouched
 untouched-by : (c : Call) (m : Monitor) (n : ℕ) → refusalOf c ≡ some n → after c m ≡ m
@@ -216,7 +216,7 @@ module _ (m : Monitor) (s : List ℕ) (monitor next : Monitor) (i : ℕ) where
       let sum : i + wholeRecords t ≡ wholeRecords s = omega (arith, length-drop (16 * i) s) in
       (rw (all, played) at en) ∙ (rw sum at (composed m s i (wholeRecords t)))
 
--- record by record: one more, whatever its call answers; and the last
+-- one record more, whatever its call answers
 pub one-more :
     (m : Monitor) (s : List ℕ) (monitor next : Monitor) (i : ℕ) (r : List ℕ) →
     Replayed m s monitor i →
@@ -228,15 +228,59 @@ unfolding callsBefore afterRecord
 one-more m s monitor next i r (le, played) er en h =
     rw (add-one i) (omega arith, rw (en, er, played) (then-one m (callsBefore s i) (callOf (recordAt s i))))
 
-pub last-one :
-    (m : Monitor) (s : List ℕ) (monitor : Monitor) (i : ℕ) →
-    Replayed m s monitor i →
-    wholeRecords s ≤ i →
-    monitor ≡ playFrom m (historyOf s)
-unfolding historyOf
-last-one m s monitor i (le, played) h =
-    let all : i ≡ wholeRecords s = omega arith in
-    rw (← all) played
+-- the rest of a file behind record i, as the code lends it
+pub behind :
+    (s : List ℕ) (i : ℕ) →
+    i < wholeRecords s →
+    take (length s - (16 * i + 16)) (drop (16 * i + 16) s) ≡ drop (16 * (i + 1)) s
+behind s i h =
+    let from : 16 * i + 16 ≡ 16 * (i + 1) = omega arith in
+    rw from (take-all (length s - 16 * (i + 1)) (drop (16 * (i + 1)) s) (omega (arith, length-drop (16 * (i + 1)) s)))
+
+pub few-behind :
+    (s : List ℕ) (i k : ℕ) →
+    i < wholeRecords s →
+    k ≤ wholeRecords (take (length s - (16 * i + 16)) (drop (16 * i + 16) s)) →
+    i + 1 + k ≤ wholeRecords s
+few-behind s i k h few =
+    omega (
+      arith,
+      length-take (length s - (16 * i + 16)) (drop (16 * i + 16) s),
+      length-drop (16 * i + 16) s,
+    )
+
+-- a stretch of k records from record i on
+module _ (m : Monitor) (s : List ℕ) (monitor next : Monitor) (i k : ℕ) where
+  abbrev rest : List ℕ
+  rest = drop (16 * i) s
+
+  went-far :
+      Replayed m s monitor i →
+      next ≡ playFrom monitor (callsBefore (drop (16 * i) s) k) →
+      k ≤ wholeRecords (drop (16 * i) s) →
+      Replayed m s next (i + k)
+  went-far (le, played) e few = (omega (arith, length-drop (16 * i) s), rw (e, played) (composed m s i k))
+
+  pub ran-far :
+      Ran m s monitor i →
+      next ≡ playFrom monitor (callsBefore (drop (16 * i) s) k) →
+      k ≤ wholeRecords (drop (16 * i) s) →
+      NoneRefused (drop (16 * i) s) k →
+      Ran m s next (i + k)
+  ran-far (le, played, first) e few accepted =
+      let far = went-far (le, played) e few in (far .0, far .1, passed k (far .0) accepted ∙ first)
+    where
+      passed :
+          (k : ℕ) →
+          i + k ≤ wholeRecords s →
+          NoneRefused (drop (16 * i) s) k →
+          firstRefusedFrom s (i + k) (wholeRecords s - (i + k)) ≡ firstRefusedFrom s i (wholeRecords s - i)
+      passed zero h accepted = rw (add-zero i)
+      passed (suc k) h accepted =
+          let here = rw (rest-record s i k) at (accepted k (omega arith)) in
+          let more : wholeRecords s - (i + k) ≡ suc (wholeRecords s - suc (i + k)) = omega arith in
+          rw (add-suc i k) (sym (pass s (i + k) (wholeRecords s - suc (i + k)) here) ∙
+          (rw more at (passed k (omega arith) (λ j j<k. accepted j (omega arith)))))
 
 -- the end of a file of n bytes
 pub whole : (n : ℕ) → n % 16 ≡ 0 → done ≡ unlessRefused (endRefusal n) done

@@ -1,6 +1,6 @@
 -- Laws of one record.
 use mathlib.Core.Path.{_≡_, refl, sym, ap, _∙_}
-use mathlib.Core.Bool.{Bool, true, false, cond, not, _&&_, and-false}
+use mathlib.Core.Bool.{Bool, true, false, true≢false, cond, not, _&&_, and-false}
 use mathlib.Core.List.{List, [], _∷_}
 use mathlib.Core.Logic.{⊎-elim}
 use mathlib.Core.Option.{Option, none, some}
@@ -8,7 +8,7 @@ use Prim.Native.Nat.{ℕ, _+_, _-_, _*_, _<_, _≤_}
 use native.Mathlib.Nat.{zero-add, add-comm}
 use native.Mathlib.Numerals.{add-one}
 use native.Mathlib.Omega.{arith}
-use borrow.Author.Tests.{eq-eqb, ne-eqb, eqb-true, le-leb, leb-true}
+use borrow.Author.Tests.{eq-eqb, ne-eqb, eqb-true, eqb-false, le-leb, lt-leb, leb-true, leb-false}
 use borrow.Rule.Slice.PartAt.{part-to-end}
 use denote.Enum.Declared.{tagOf}
 use lib.Dec.{eqb, leb}
@@ -18,26 +18,24 @@ use types.Run.{OneOf}
 use Rattle.endian.specs.Bytes.{anySet}
 use Rattle.endian.specs.Loads.{number}
 use Rattle.endian.proofs.Numbers.{below, both-clear, first-set}
-use Rattle.monitor.proofs.Counters.{no-counter, uncounted}
-use Rattle.monitor.proofs.Time.{withTime, time-alone}
-use Rattle.monitor.proofs.answers.ElapsedAnswer.{the-type}
-use Rattle.monitor.specs.declared.answers.ElapsedAnswer.{ElapsedAnswer}
-use Rattle.monitor.specs.declared.answers.ElapsedAnswer.the-variants as time
+use Rattle.monitor.proofs.Time.{alone}
 use Rattle.monitor.specs.declared.commands.Command.{Command}
+use Rattle.monitor.specs.declared.passing.Passed.{Passed}
 use Rattle.monitor.specs.declared.record.Monitor.{Monitor}
-use Rattle.monitor.specs.declared.record.Passed.{Passed}
 use Rattle.monitor.specs.Answers.{CallAnswer, refused, done, notCounted, counted, ended, byKind, unlessRefused}
-use Rattle.monitor.specs.Answers.{saysElapsed}
-use Rattle.monitor.specs.Commands.{counterNumber, counterOf, belowAOf}
-use Rattle.monitor.specs.Counting.{countedBelowA}
+use Rattle.monitor.specs.Commands.{counterOf}
 use Rattle.monitor.specs.History.{Call, settings, completion, elapsed, clock, powerUp, page, settingsBack}
-use Rattle.monitor.specs.History.{belowA, after, answerOf, playFrom, refusalOf, found}
-use Rattle.monitor.specs.Record.{withBelowA, passedBy, settingsAnswer, completionAnswer, elapsedAnswer, clockAnswer}
+use Rattle.monitor.specs.History.{belowA, after, answerOf, playFrom, refusalOf, found, andThen}
+use Rattle.monitor.specs.Passing.{standing, passedBy, clockedBy, poweredBy, timeBy, withTime}
+use Rattle.monitor.specs.Record.{settingsAnswer, completionAnswer, elapsedAnswer, clockAnswer}
 use Rattle.monitor.specs.Refusals.{settingsRefusal, elapsedRefusal, clockRefusal, pageRefusal, settingsBackRefusal}
 use Rattle.monitor.specs.Report.{pageAnswer, settingsBackAnswer}
 use Rattle.events.specs.Records.{recordKind, part, unnamed, settingsBytes, commandOf, elapsedOf, clockOf, callOfKind}
 use Rattle.events.specs.Records.{attribute, completionOf, callOf, isKind, isCompletion, isElapsed}
-use Rattle.events.specs.Records.{recordRefusal, recordAnswer, afterRecord}
+use Rattle.events.specs.Records.{recordRefusal, recordAnswer, saysRecord, afterRecord, timedBy}
+use Rattle.events.specs.declared.answers.RecordAnswer.{RecordAnswer}
+use Rattle.events.specs.declared.answers.RecordAnswer.the-variants as answer
+use Rattle.events.proofs.answers.RecordAnswer.{the-type}
 
 -- a part of at most eight bytes is loaded whole
 pub loaded : (l : List ℕ) (n : ℕ) → n ≤ 8 → number (take 8 (take n l)) ≡ number (take n l)
@@ -91,7 +89,7 @@ module _ (r : List ℕ) (sixteen : length r ≡ 16) where
     unfolding number
     both-bytes = rw (loads, drop-cons r 2 0 (omega arith), drop-cons r 3 0 (omega arith)) (omega arith)
 
-    pub attribute-few :
+    attribute-few :
         (b : ℕ) →
         recordKind r ≡ 2 →
         a ≤ 1 →
@@ -104,7 +102,7 @@ module _ (r : List ℕ) (sixteen : length r ≡ 16) where
         omega (arith, loaded (drop 3 r) 1 (omega arith), byte-three, both-bytes) in
         rw (low, eq-eqb (recordKind r) 2 kind) (cleared r 3 4 8 0 b third refl rest (omega arith) (omega arith))
 
-    pub attribute-above : 1 < a → false ≡ isCompletion r
+    attribute-above : 1 < a → false ≡ isCompletion r
     unfolding isCompletion
     attribute-above above = by (leb (attribute r) 1) refl
       where
@@ -114,6 +112,63 @@ module _ (r : List ℕ) (sixteen : length r ≡ 16) where
             let low = leb-true (attribute r) 1 e in
             let third = first-set (part 3 4 r) (drop 8 r) (λ z. omega (arith, z, byte-three, both-bytes)) in
             rw (sym third, and-false (eqb (recordKind r) 2))
+
+    -- the bytes from 8 on, in two numbers
+    module _
+        (b d : ℕ)
+        (loads-b : b ≡ number (take 8 (take 4 (drop 8 r))))
+        (loads-d : d ≡ number (take 8 (take (length r - 12) (drop 12 r))))
+      where
+        abbrev rest : ℕ
+        rest = number (take 8 (take (length r - 8) (drop 8 r)))
+
+        -- their sum is no more than a number holds
+        pub sum-fits : ((k : ℕ) → getD r k 0 < 256) → (a < 65536) × (b < 4294967296) × (d < 4294967296)
+        sum-fits bytes =
+            let four : length r - 12 ≡ 4 = omega arith in (
+              rw (loads, loaded (drop 2 r) 2 (omega arith))
+                  (below (drop 2 r) (λ k. rw (getD-drop 2 r k 0) (bytes (2 + k))) 2),
+              four-fit (drop 8 r) b loads-b (λ k. rw (getD-drop 8 r k 0) (bytes (8 + k))),
+              four-fit (drop 12 r) d (rw four at loads-d) (λ k. rw (getD-drop 12 r k 0) (bytes (12 + k))),
+            )
+
+        both-numbers : rest ≡ b + 4294967296 * d
+        unfolding number
+        both-numbers =
+            rw (
+              loads-b,
+              loads-d,
+              part-to-end r 8,
+              part-to-end r 12,
+              take-all 8 (drop 8 r) (omega (arith, length-drop 8 r)),
+              take-all 8 (drop 12 r) (omega (arith, length-drop 12 r)),
+              drop-cons r 8 0 (omega arith),
+              drop-cons r 9 0 (omega arith),
+              drop-cons r 10 0 (omega arith),
+              drop-cons r 11 0 (omega arith),
+            ) (omega arith)
+
+        same-test : a ≤ 1 → (t : Bool) → eqb rest 0 ≡ t → leb (a + 2 * (b + d)) 1 ≡ t
+        same-test few true e =
+            le-leb (a + 2 * (b + d)) 1 (omega (arith, few, both-numbers, eqb-true rest 0 e))
+        same-test few false e =
+            let some-set = eqb-false rest 0 e in
+            lt-leb (a + 2 * (b + d)) 1 (by (eqb (b + d) 0) refl some-set)
+          where
+            by : (z : Bool) → eqb (b + d) 0 ≡ z → (rest ≡ 0 → ⊥) → 1 < a + 2 * (b + d)
+            by true e n = absurd (n (omega (arith, both-numbers, eqb-true (b + d) 0 e)))
+            by false e n = let some-byte = eqb-false (b + d) 0 e in omega arith
+
+        pub by-one-sum : recordKind r ≡ 2 → leb (a + 2 * (b + d)) 1 ≡ isCompletion r
+        by-one-sum kind = by (leb a 1) refl
+          where
+            by : (t : Bool) → leb a 1 ≡ t → leb (a + 2 * (b + d)) 1 ≡ isCompletion r
+            by true e =
+                let few = leb-true a 1 e in
+                same-test few (eqb rest 0) refl ∙ attribute-few rest kind few refl
+            by false e =
+                let above = leb-false a 1 e in
+                lt-leb (a + 2 * (b + d)) 1 (omega (arith, above)) ∙ attribute-above above
 
 -- one settings byte more
 pub one-byte :
@@ -282,31 +337,98 @@ pub completion-accepted : (r : List ℕ) (c : Command) → callOf r ≡ some (co
 unfolding recordRefusal
 completion-accepted r c e = rw e
 
--- a completion without a counter changes the counts below threshold A at most
-pub spared :
-    (m : Monitor) (r : List ℕ) (c : Command) (n : ℕ) (counts : List ℕ) →
-    callOf r ≡ some (completion c) →
-    n ≡ counterNumber (counterOf (m .settings) c) →
-    n ≡ 12 →
-    counts ≡ countedBelowA (belowAOf (m .settings) c) (m .«active_below_a») →
-    withBelowA m counts ≡ afterRecord m r
-unfolding afterRecord playFrom
-spared m r c n counts e number twelve more =
-    rw e (uncounted m c counts (no-counter (m .settings) c n number (omega arith)) more .0)
+-- what a record makes of the clock and the timer, by its call; both stay where it is none, or one of another kind
+module _ (m : Monitor) where
+  abbrev byCall : Option Call → Passed
+  byCall o = found (standing m) (timeBy m) o
 
--- elapsed time that ends no window changes the clock and the timer alone
-pub time-passed :
-    (m : Monitor) (r : List ℕ) (p : Passed) →
-    length r ≡ 16 →
-    isElapsed r ≡ true →
-    p ≡ passedBy m (elapsedOf r) →
-    p .alone ≡ true →
-    withTime m p ≡ afterRecord m r
-unfolding afterRecord playFrom callOfKind isElapsed
-time-passed m r p sixteen is e alone =
-    let kind = is-kind r sixteen 3 (unnamed 1 4 8 r) is in
-    let call = known-call r sixteen 3 (unnamed 1 4 8 r) (elapsed (elapsedOf r)) refl (kind .0) (kind .1) in
-    rw (call, e) (time-alone m (elapsedOf r) (rw e at alone))
+  abbrev Stands : Option Call → Type 0
+  Stands o = byCall o ≡ standing m
+
+  either : (t : Bool) (a b : Option Call) → Stands a → Stands b → Stands (cond t a b)
+  either true a b ha hb = ha
+  either false a b ha hb = hb
+
+  not-of-kind :
+      (k u : Bool) (c : Call) (o : Option Call) →
+      (k && not u) ≡ false →
+      Stands o →
+      Stands (cond k (cond u none (some c)) o)
+  not-of-kind true true c o h e = refl
+  not-of-kind true false c o h e = cc
+  not-of-kind false u c o h e = e
+
+  stays : (r : List ℕ) → isElapsed r ≡ false → isKind 4 1 4 12 r ≡ false → isKind 5 1 8 8 r ≡ false → Stands (callOf r)
+  unfolding callOf callOfKind completionOf isElapsed
+  stays r h3 h4 h5 =
+      either (eqb (length r) 16) _ none
+      (either (eqb (recordKind r) 1) _ _ (either (anySet (unnamed 14 16 16 r)) none _ refl refl)
+      (either (eqb (recordKind r) 2) _ _
+      (either (leb (attribute r) 1) _ none (either (anySet (unnamed 3 4 8 r)) none _ refl refl) refl)
+      (not-of-kind (eqb (recordKind r) 3) (anySet (unnamed 1 4 8 r)) _ _ h3
+      (not-of-kind (eqb (recordKind r) 4) (anySet (unnamed 1 4 12 r)) _ _ h4
+      (not-of-kind (eqb (recordKind r) 5) (anySet (unnamed 1 8 8 r)) _ none h5 refl)))))
+      refl
+
+  -- a record that changes the clock and the timer alone, and is not refused
+  pub timed-alone :
+      (r : List ℕ) →
+      timedBy m r .alone ≡ true →
+      (withTime m (timedBy m r) ≡ afterRecord m r) × (recordRefusal r ≡ none)
+  unfolding timedBy afterRecord recordRefusal playFrom
+  timed-alone r e = by (callOf r) e
+    where
+      by :
+          (o : Option Call) →
+          byCall o .alone ≡ true →
+          (withTime m (byCall o) ≡ playFrom m (andThen o [])) × (found (some 11) refusalOf o ≡ none)
+      by none e = absurd (true≢false (sym e))
+      by (some c) e = alone m c e
+
+  -- as the code tells the kinds apart
+  module _ (r : List ℕ) (p : Passed) where
+    timed-call : (c : Call) → callOf r ≡ some c → p ≡ timeBy m c → p ≡ timedBy m r
+    unfolding timedBy
+    timed-call c e same = rw e same
+
+    module _ (sixteen : length r ≡ 16) (t : Bool) (taken : t ≡ true) where
+      pub timed-elapsed :
+          (ms : ℕ) →
+          ms ≡ number (take 8 (take 4 (drop 4 r))) →
+          t ≡ isElapsed r →
+          p ≡ passedBy m ms →
+          p ≡ timedBy m r
+      timed-elapsed ms n is same = timed-call (elapsed ms) (elapsed-call r sixteen ms n (sym is ∙ taken)) same
+
+      pub timed-clock :
+          (value : ℕ) →
+          value ≡ number (take 8 (take 8 (drop 4 r))) →
+          t ≡ isKind 4 1 4 12 r →
+          p ≡ clockedBy m value →
+          p ≡ timedBy m r
+      timed-clock value n is same =
+          let kind = is-kind r sixteen 4 (unnamed 1 4 12 r) (sym is ∙ taken) in
+          timed-call (clock value) (clock-call r sixteen value n (kind .0) (kind .1)) same
+
+      pub timed-power-up : t ≡ isKind 5 1 8 8 r → p ≡ poweredBy m → p ≡ timedBy m r
+      unfolding callOfKind
+      timed-power-up is same =
+          let kind = is-kind r sixteen 5 (unnamed 1 8 8 r) (sym is ∙ taken) in
+          timed-call powerUp (known-call r sixteen 5 (unnamed 1 8 8 r) powerUp refl (kind .0) (kind .1)) same
+
+    pub timed-standing :
+        (t3 t4 t5 : Bool) →
+        t3 ≡ isElapsed r →
+        t3 ≡ false →
+        t4 ≡ isKind 4 1 4 12 r →
+        t4 ≡ false →
+        t5 ≡ isKind 5 1 8 8 r →
+        t5 ≡ false →
+        p ≡ standing m →
+        p ≡ timedBy m r
+    unfolding timedBy
+    timed-standing t3 t4 t5 is3 n3 is4 n4 is5 n5 same =
+        same ∙ sym (stays r (sym is3 ∙ n3) (sym is4 ∙ n4) (sym is5 ∙ n5))
 
 -- the refusal that an answer names
 abbrev pub refusalIn : CallAnswer → Option ℕ
@@ -340,11 +462,19 @@ named m c = by c
     by (settingsBack n) = unless (settingsBackRefusal n) done refl
     by (belowA w) = refl
 
--- answers to elapsed time other than a refusal name none
-pub let-through : (a : ElapsedAnswer) → OneOf (1 ∷ 2 ∷ []) (tagOf the-type a) → refusalIn (saysElapsed a) ≡ none
-let-through (time.Refused n) h = ⊎-elim (λ w. absurd (omega arith)) (λ w. absurd (omega arith)) h
-let-through time.Active h = refl
-let-through time.Ended h = refl
+-- answers other than a refusal name none
+pub let-through : (a : RecordAnswer) → OneOf (1 ∷ 2 ∷ 3 ∷ 4 ∷ []) (tagOf the-type a) → refusalIn (saysRecord a) ≡ none
+let-through (answer.Refused n) h = absurd (none-of h)
+  where
+    none-of : OneOf (1 ∷ 2 ∷ 3 ∷ 4 ∷ []) 0 → ⊥
+    none-of h =
+        ⊎-elim (λ w. absurd (omega arith))
+        (⊎-elim (λ w. absurd (omega arith)) (⊎-elim (λ w. absurd (omega arith)) (λ w. absurd (omega arith))))
+        h
+let-through answer.Done h = refl
+let-through answer.NotCounted h = refl
+let-through (answer.Counted n loaded debug) h = refl
+let-through (answer.Ended e) h = refl
 
 -- a record's answer names its refusal
 pub refusal-named :

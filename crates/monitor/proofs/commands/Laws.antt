@@ -1,9 +1,9 @@
 -- Laws of the search for a bucket, and of the counter that it leads to.
-use mathlib.Core.Path.{_≡_, refl, sym, _∙_}
+use mathlib.Core.Path.{_≡_, refl, sym, ap, _∙_}
 use mathlib.Core.Bool.{Bool, true, false, cond, true≢false, _&&_, _||_, and-false}
 use mathlib.Core.List.{List}
 use mathlib.Core.Option.{Option, none, some}
-use Prim.Native.Nat.{ℕ, zero, suc, _+_, _*_, _-_, _<_}
+use Prim.Native.Nat.{ℕ, zero, suc, _+_, _*_, _-_, _≤_, _<_}
 use native.Mathlib.Nat.{not-suc-le-zero}
 use native.Mathlib.Numerals.{sub-one}
 use native.Mathlib.Omega.{arith}
@@ -11,37 +11,37 @@ use lib.Dec.{eqb}
 use lib.ListN.{getD}
 use Rattle.logpage.specs.declared.Settings.{Settings}
 use Rattle.monitor.specs.declared.commands.Command.{Command}
-use Rattle.monitor.specs.Commands.{highestBelow, reaches, reachesA, bucketOf, kindOf, counterAt, counterOf}
-use Rattle.monitor.specs.Commands.{isBelowA, belowAOf}
+use Rattle.monitor.specs.Commands.{highest, highestReached, highestBelow, reaches, reachesA, bucketOf}
+use Rattle.monitor.specs.Commands.{kindFor, kindOf, counterAt, counterOf, isBelowA, belowAOf, bucketNumber, counterNumber, kindNumber}
 
 -- one step of the search down
-module _ (thresholds : List ℕ) (us : ℕ) where
+module _ (reached : List Bool) where
   down :
       (n : ℕ) →
       0 < n →
-      highestBelow thresholds us n ≡
-      cond (reaches us (getD thresholds (n - 1) 0)) (some (n - 1)) (highestBelow thresholds us (n - 1))
-  unfolding highestBelow
+      highestReached reached n ≡
+      cond (getD reached (n - 1) false) (some (n - 1)) (highestReached reached (n - 1))
+  unfolding highest
   down zero h = absurd (not-suc-le-zero h)
   down (suc n) h = rw (sub-one (suc n))
 
   pub hit :
       (n : ℕ) →
       0 < n →
-      reaches us (getD thresholds (n - 1) 0) ≡ true →
-      highestBelow thresholds us n ≡ some (n - 1)
+      getD reached (n - 1) false ≡ true →
+      highestReached reached n ≡ some (n - 1)
   hit n p t = rw (down n p, t)
 
   pub miss :
       (n : ℕ) →
       0 < n →
-      reaches us (getD thresholds (n - 1) 0) ≡ false →
-      highestBelow thresholds us n ≡ highestBelow thresholds us (n - 1)
+      getD reached (n - 1) false ≡ false →
+      highestReached reached n ≡ highestReached reached (n - 1)
   miss n p t = rw (down n p, t)
 
-pub nothing : (thresholds : List ℕ) (us : ℕ) → highestBelow thresholds us 0 ≡ none
-unfolding highestBelow
-nothing thresholds us = refl
+pub nothing : (reached : List Bool) → highestReached reached 0 ≡ none
+unfolding highest
+nothing reached = refl
 
 -- a number that is found is below a limit
 data Below (n : ℕ) : Option ℕ → Type 0 where
@@ -57,7 +57,7 @@ more absent = absent
 more (present {x = x} h) = present {x = x} (omega arith)
 
 bucket-below : (thresholds : List ℕ) (us n : ℕ) → Below n (highestBelow thresholds us n)
-unfolding highestBelow
+unfolding highest
 bucket-below thresholds us zero = absent
 bucket-below thresholds us (suc n) =
     either (reaches us (getD thresholds n 0)) (present (omega arith)) (more (bucket-below thresholds us n))
@@ -84,10 +84,10 @@ at-below (present {x = b} p) (present {x = k} q) = present {x = 3 * b + k} (omeg
 inside : {n x : ℕ} → Below n (some x) → x < n
 inside (present h) = h
 
--- there are four buckets
-pub bucket-few : (thresholds : List ℕ) (c : Command) (b : ℕ) → bucketOf thresholds c ≡ some b → b < 4
-unfolding bucketOf
-bucket-few thresholds c b e = inside (rw e at (bucket-below thresholds (c .latency) 4))
+-- the kind by the attribute
+pub by-attribute : (c : Command) (d : Bool) → c .deallocate ≡ d → kindFor (c .opcode) d ≡ kindOf c
+unfolding kindOf
+by-attribute c d e = ap (kindFor (c .opcode)) (sym e)
 
 -- there are twelve counters
 pub counter-below : (s : Settings) (c : Command) (n : ℕ) → counterOf s c ≡ some n → n < 12
@@ -124,7 +124,7 @@ has-bucket :
     reaches us (getD thresholds 0 0) ≡ true →
     (n : ℕ) →
     Found (suc n) (highestBelow thresholds us (suc n))
-unfolding highestBelow
+unfolding highest
 has-bucket thresholds us a zero = rw a (found-at 0 (omega arith))
 has-bucket thresholds us a (suc n) = by (reaches us (getD thresholds (suc n) 0)) (has-bucket thresholds us a n)
   where
@@ -137,6 +137,54 @@ has-bucket thresholds us a (suc n) = by (reaches us (getD thresholds (suc n) 0))
       where
         more-of : {o : Option ℕ} → Found (suc n) o → Found (suc (suc n)) o
         more-of (found-at b h) = found-at b (omega arith)
+
+-- no counter without a kind
+pub at-no-kind : (o : Option ℕ) → counterAt o none ≡ none
+at-no-kind none = refl
+at-no-kind (some b) = refl
+
+-- the counter by its two numbers, of a latency that reaches threshold A
+module _
+    (s : Settings)
+    (c : Command)
+    (bucket kind : ℕ)
+    (on : s .enabled ≡ true)
+    (a : reachesA (s .thresholds) c ≡ true)
+    (bucket-is : bucket ≡ bucketNumber (bucketOf (s .thresholds) c))
+    (kind-is : kind ≡ kindNumber (kindOf c))
+  where
+    pub few-buckets : bucket < 4
+    unfolding bucketOf
+    few-buckets = rw bucket-is (by (has-bucket (s .thresholds) (c .latency) a 3))
+      where
+        by : {o : Option ℕ} → Found 4 o → bucketNumber o < 4
+        by (found-at b few) = few
+
+    pub by-numbers : kind < 3 → 3 * bucket + kind ≡ counterNumber (counterOf s c)
+    unfolding counterOf
+    by-numbers few = rw (on, a) (by (bucketOf (s .thresholds) c) bucket-is (kindOf c) kind-is)
+      where
+        by :
+            (b : Option ℕ) →
+            bucket ≡ bucketNumber b →
+            (k : Option ℕ) →
+            kind ≡ kindNumber k →
+            3 * bucket + kind ≡ counterNumber (counterAt b k)
+        by (some x) eb (some y) ek = rw (eb, ek)
+        by none eb k ek = absurd (omega (arith, few-buckets))
+        by (some x) eb none ek = absurd (omega arith)
+
+    pub by-no-kind : 3 ≤ kind → 12 ≡ counterNumber (counterOf s c)
+    unfolding counterOf
+    by-no-kind many = rw (on, a) (by (kindOf c) refl kind-is)
+      where
+        by :
+            (k : Option ℕ) →
+            kindOf c ≡ k →
+            kind ≡ kindNumber k →
+            12 ≡ counterNumber (counterAt (bucketOf (s .thresholds) c) k)
+        by none is e = rw (at-no-kind (bucketOf (s .thresholds) c))
+        by (some k) is e = absurd (omega (arith, kind-few c k is))
 
 -- what becomes of a completion: it has a counter, it is below threshold A, or it is of no kind or comes while disabled
 pub data Becomes (s : Settings) (c : Command) : Type 0 where
@@ -160,10 +208,6 @@ pub data Becomes (s : Settings) (c : Command) : Type 0 where
       Becomes s c
   kindless : kindOf c ≡ none → counterOf s c ≡ none → belowAOf s c ≡ none → Becomes s c
   disabled : s .enabled ≡ false → counterOf s c ≡ none → belowAOf s c ≡ none → Becomes s c
-
-pub at-no-kind : (o : Option ℕ) → counterAt o none ≡ none
-at-no-kind none = refl
-at-no-kind (some b) = refl
 
 pub becomes : (s : Settings) (c : Command) → Becomes s c
 unfolding isBelowA counterOf belowAOf bucketOf

@@ -1,66 +1,58 @@
--- `Command::bucket`: the buckets passed were not reached, so the search among those left decides.
-use mathlib.Core.Path.{_≡_, sym, _∙_}
-use Prim.Native.Nat.{_≤_}
+-- `Command::bucket`: the search goes by which thresholds are reached.
+use Rattle.monitor.specs.Commands.{bucketOf, highest}
 use borrow.Author.Needs.{needs}
-use Rattle.monitor.specs.Commands.{highestBelow, bucketOf}
-use Rattle.monitor.proofs.commands.Laws.{hit, miss, nothing}
 use Rattle.monitor.proofs.commands.Command.bucket.Statement.{statement}
 use Rattle.monitor.proofs.commands.Command.bucket.Tie as tie
 
-abbrev Inv-loop : tie.InvT-loop
-Inv-loop thresholds latency b₀ b =
-    (b ≤ 4) × (highestBelow thresholds latency b ≡ highestBelow thresholds latency 4)
-
-abbrev μ-loop : tie.MeasureT-loop
-μ-loop thresholds latency b₀ b = b
-
-loop-holds : tie.Need-loop-holds Inv-loop μ-loop
-loop-holds c = search needs
-
-sub-b : tie.Need-sub-b Inv-loop μ-loop
-sub-b c = search needs
-
-cast-reaches : tie.Need-cast-reaches Inv-loop μ-loop
-cast-reaches c = search needs
-
-array-read-reaches : tie.Need-array-read-reaches Inv-loop μ-loop
+array-read-reaches : tie.Need-array-read-reaches
 array-read-reaches c = search needs
 
-reaches-requires : tie.Need-reaches-requires Inv-loop μ-loop
+reaches-requires : tie.Need-reaches-requires
 reaches-requires c κs = search needs
 
-loop-less : tie.Need-loop-less Inv-loop μ-loop
-loop-less c = search needs
+array-read-reaches-2 : tie.Need-array-read-reaches-2
+array-read-reaches-2 c = search needs
 
-loop-again : tie.Need-loop-again Inv-loop μ-loop
-loop-again c =
-    let l = c .before .before .before .loop in
-    let not-reached = sym (c .before .reaches .ensures) ∙ c .if2 .left in
-    (search needs, sym (miss _ _ (l .b) (search needs) not-reached) ∙ l .inv .1)
+reaches-requires-2 : tie.Need-reaches-requires-2
+reaches-requires-2 c κs = search needs
 
-returns : tie.Need-returns Inv-loop μ-loop
-unfolding bucketOf
-returns c = sym (nothing _ _) ∙ (rw (c .if1 .taken) at (c .before .loop .inv .1))
+array-read-reaches-3 : tie.Need-array-read-reaches-3
+array-read-reaches-3 c = search needs
 
-returns-2 : tie.Need-returns-2 Inv-loop μ-loop
-unfolding bucketOf
-returns-2 c =
-    let l = c .before .before .before .loop in
-    let reached = sym (c .before .reaches .ensures) ∙ c .if2 .taken in
-    sym (hit _ _ (l .b) (search needs) reached) ∙ l .inv .1
+reaches-requires-3 : tie.Need-reaches-requires-3
+reaches-requires-3 c κs = search needs
+
+array-read-reaches-4 : tie.Need-array-read-reaches-4
+array-read-reaches-4 c = search needs
+
+reaches-requires-4 : tie.Need-reaches-requires-4
+reaches-requires-4 c κs = search needs
+
+highest-requires : tie.Need-highest-requires
+highest-requires c κs = search needs
+
+returns : tie.Need-returns
+unfolding bucketOf highest
+returns c =
+    let third = c .before .before in
+    rw (
+      ← c .before .reaches4 .ensures,
+      ← third .reaches3 .ensures,
+      ← third .before .reaches2 .ensures,
+      ← third .before .before .reaches .ensures,
+    ) (c .highest .ensures)
 
 pub bucket-spec : {M : Type 1} → statement M
 bucket-spec =
     tie.close
     (tie.spec
-    Inv-loop
-    μ-loop
-    loop-holds
-    sub-b
-    cast-reaches
     array-read-reaches
     reaches-requires
-    loop-less
-    loop-again
-    returns
-    returns-2)
+    array-read-reaches-2
+    reaches-requires-2
+    array-read-reaches-3
+    reaches-requires-3
+    array-read-reaches-4
+    reaches-requires-4
+    highest-requires
+    returns)

@@ -1,7 +1,8 @@
--- `Command::counter`: in a bucket, below the buckets, below threshold A, and disabled.
+-- `Command::counter`: of a kind and of none, below threshold A, and disabled.
 use mathlib.Core.Path.{sym, ap, _∙_}
-use Rattle.monitor.specs.Commands.{counterOf, saysBucket}
-use Rattle.monitor.proofs.commands.Laws.{bucket-few}
+use native.Mathlib.Omega.{arith}
+use Rattle.monitor.specs.Commands.{counterOf, kindNumber}
+use Rattle.monitor.proofs.commands.Laws.{few-buckets, by-numbers, by-no-kind}
 use borrow.Author.Needs.{needs}
 use Rattle.monitor.proofs.commands.Command.counter.Statement.{statement}
 use Rattle.monitor.proofs.commands.Command.counter.Tie as tie
@@ -15,36 +16,64 @@ reaches-requires c κs = search needs
 bucket-requires : tie.Need-bucket-requires
 bucket-requires c κs = search needs
 
-enum-known-b : tie.Need-enum-known-b
-enum-known-b c = search needs
-
 kind-requires : tie.Need-kind-requires
 kind-requires c κs = search needs
 
-counter-at-requires : tie.Need-counter-at-requires
-counter-at-requires c κs =
-    let at-bucket = c .before .before .before .before in
-    bucket-few _ _ _ (sym (at-bucket .bucket .ensures) ∙ ap saysBucket (c .before .before .b .given .1))
+kind-number-requires : tie.Need-kind-number-requires
+kind-number-requires c κs = search needs
 
-enum-told : tie.Need-enum-told
-enum-told c = search needs
+mul-result : tie.Need-mul-result
+mul-result c =
+    let number = c .before in
+    let found = number .before .before in
+    let past-a = found .before in
+    let start = past-a .before .before .before .before in
+    omega (
+      arith,
+      few-buckets (start .args .s) (start .args .self) _ _ (past-a .before .before .before .if1 .taken)
+          (sym (past-a .before .reaches .ensures) ∙ past-a .if2 .taken)
+          (found .bucket .ensures)
+          (number .kind-number .ensures ∙ ap kindNumber (number .before .kind .ensures)),
+    )
+
+add-result : tie.Need-add-result
+add-result c =
+    let number = c .before in
+    let found = number .before .before in
+    let past-a = found .before in
+    let start = past-a .before .before .before .before in
+    omega (
+      arith,
+      c .if3 .taken,
+      few-buckets (start .args .s) (start .args .self) _ _ (past-a .before .before .before .if1 .taken)
+          (sym (past-a .before .reaches .ensures) ∙ past-a .if2 .taken)
+          (found .bucket .ensures)
+          (number .kind-number .ensures ∙ ap kindNumber (number .before .kind .ensures)),
+    )
 
 returns : tie.Need-returns
-unfolding counterOf
 returns c =
-    let at-bucket = c .before .before .before .before .before in
-    let past-a = at-bucket .before in
-    let above = sym (past-a .before .reaches .ensures) ∙ past-a .if2 .taken in
-    let in-bucket = sym (at-bucket .bucket .ensures) ∙ ap saysBucket (c .before .before .before .b .given .1) in
-    rw (past-a .before .before .before .if1 .taken, above, in-bucket, ← c .before .kind .ensures) (c .counter-at .ensures)
+    let number = c .before in
+    let found = number .before .before in
+    let past-a = found .before in
+    let start = past-a .before .before .before .before in
+    by-numbers (start .args .s) (start .args .self) _ _ (past-a .before .before .before .if1 .taken)
+    (sym (past-a .before .reaches .ensures) ∙ past-a .if2 .taken)
+    (found .bucket .ensures)
+    (number .kind-number .ensures ∙ ap kindNumber (number .before .kind .ensures))
+    (c .if3 .taken)
 
 returns-2 : tie.Need-returns-2
-unfolding counterOf
 returns-2 c =
-    let past-a = c .before .before .before in
-    let above = sym (past-a .before .reaches .ensures) ∙ past-a .if2 .taken in
-    let below = sym (c .before .before .bucket .ensures) ∙ ap saysBucket (c .enum-told .given .1) in
-    rw (past-a .before .before .before .if1 .taken, above, below)
+    let number = c .before in
+    let found = number .before .before in
+    let past-a = found .before in
+    let start = past-a .before .before .before .before in
+    by-no-kind (start .args .s) (start .args .self) _ _ (past-a .before .before .before .if1 .taken)
+    (sym (past-a .before .reaches .ensures) ∙ past-a .if2 .taken)
+    (found .bucket .ensures)
+    (number .kind-number .ensures ∙ ap kindNumber (number .before .kind .ensures))
+    (c .if3 .left)
 
 returns-3 : tie.Need-returns-3
 unfolding counterOf
@@ -61,10 +90,10 @@ counter-spec =
     array-read-reaches
     reaches-requires
     bucket-requires
-    enum-known-b
     kind-requires
-    counter-at-requires
-    enum-told
+    kind-number-requires
+    mul-result
+    add-result
     returns
     returns-2
     returns-3

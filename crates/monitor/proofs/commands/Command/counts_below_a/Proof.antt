@@ -1,10 +1,9 @@
--- `Command::counts_below_a`: below threshold A, of a kind and of none; and any other completion.
+-- `Command::counts_below_a`: below threshold A; and any other completion.
 use mathlib.Core.Path.{sym, ap, _∙_}
 use Rattle.monitor.specs.Commands.{kindNumber}
 use Rattle.monitor.proofs.Counters.{counted-kind}
 use Rattle.monitor.proofs.commands.Laws.{below-a-kind}
 use borrow.Author.Needs.{needs}
-use borrow.Author.Tests.{le-ltb}
 use Rattle.monitor.proofs.commands.Command.counts_below_a.Statement.{statement}
 use Rattle.monitor.proofs.commands.Command.counts_below_a.Tie as tie
 
@@ -22,22 +21,14 @@ counted-below-a-requires c κs = search needs
 
 returns : tie.Need-returns
 returns c =
-    let k = c .before .before in
+    let k = c .before in
     let number = k .kind-number .ensures ∙ ap kindNumber (k .before .kind .ensures) in
     let test = k .before .before in
     rw (below-a-kind _ _ _ (sym (test .before .is-below-a .ensures) ∙ test .if1 .taken))
     (c .counted-below-a .ensures ∙ counted-kind _ _ _ number)
 
 returns-2 : tie.Need-returns-2
-returns-2 c =
-    let k = c .before in
-    let number = k .kind-number .ensures ∙ ap kindNumber (k .before .kind .ensures) in
-    let test = k .before .before in
-    let kept = rw (le-ltb _ _ (c .if2 .left)) at (counted-kind _ (test .before .before .args .counts) _ number) in
-    rw (below-a-kind _ _ _ (sym (test .before .is-below-a .ensures) ∙ test .if1 .taken)) kept
-
-returns-3 : tie.Need-returns-3
-returns-3 c = rw (below-a-kind _ _ _ (sym (c .before .is-below-a .ensures) ∙ c .if1 .left))
+returns-2 c = rw (below-a-kind _ _ _ (sym (c .before .is-below-a .ensures) ∙ c .if1 .left))
 
 pub counts-below-a-spec : {M : Type 1} → statement M
 counts-below-a-spec =
@@ -48,5 +39,4 @@ counts-below-a-spec =
     kind-number-requires
     counted-below-a-requires
     returns
-    returns-2
-    returns-3)
+    returns-2)

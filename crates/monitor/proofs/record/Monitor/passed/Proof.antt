@@ -1,7 +1,7 @@
 -- `Monitor::passed`: accepted, and turned away.
 use borrow.Author.Tests.{lt-ltb, le-ltb}
 use borrow.Author.Needs.{needs}
-use Rattle.monitor.specs.Record.{passedBy}
+use Rattle.monitor.specs.Passing.{passedBy}
 use Rattle.monitor.specs.Refusals.{elapsedRefusal}
 use Rattle.monitor.proofs.record.Monitor.passed.Statement.{statement}
 use Rattle.monitor.proofs.record.Monitor.passed.Tie as tie
@@ -12,6 +12,9 @@ ticked-requires c κs = search needs
 grown-requires : tie.Need-grown-requires
 grown-requires c κs = search needs
 
+standing-requires : tie.Need-standing-requires
+standing-requires c κs = search needs
+
 returns : tie.Need-returns
 unfolding passedBy elapsedRefusal
 returns c =
@@ -20,7 +23,7 @@ returns c =
 
 returns-2 : tie.Need-returns-2
 unfolding passedBy elapsedRefusal
-returns-2 c = rw (lt-ltb _ _ (c .if1 .left))
+returns-2 c = rw (lt-ltb _ _ (c .before .if1 .left)) (c .standing .ensures)
 
 pub passed-spec : {M : Type 1} → statement M
-passed-spec = tie.close (tie.spec ticked-requires grown-requires returns returns-2)
+passed-spec = tie.close (tie.spec ticked-requires grown-requires standing-requires returns returns-2)

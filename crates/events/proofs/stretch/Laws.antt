@@ -1,0 +1,192 @@
+-- Laws of a stretch: where it is, before record i.
+use mathlib.Core.Path.{_≡_, refl, _∙_}
+use mathlib.Core.Bool.{Bool, true, false}
+use mathlib.Core.List.{List}
+use mathlib.Core.Option.{Option, none, some}
+use Prim.Native.Nat.{ℕ, _+_, _*_, _≤_, _<_}
+use native.Mathlib.Omega.{arith}
+use borrow.Author.Tests.{eqb-true, eqb-false}
+use lib.Dec.{eqb}
+use lib.ListN.{getD, set, length, length-set}
+use Rattle.monitor.specs.declared.commands.Command.{Command}
+use Rattle.monitor.specs.declared.passing.Passed.{Passed}
+use Rattle.monitor.specs.declared.record.Monitor.{Monitor}
+use Rattle.monitor.specs.declared.tally.Active.{Active}
+use Rattle.monitor.specs.declared.tally.Stamped.{Stamped}
+use Rattle.monitor.specs.Counting.{onceMore}
+use Rattle.monitor.specs.History.{Call, settings, completion, elapsed, clock, powerUp, page, settingsBack, belowA}
+use Rattle.monitor.specs.History.{playFrom, found}
+use Rattle.monitor.specs.Passing.{standing, passedBy, clockedBy, timeBy, withTime}
+use Rattle.monitor.specs.Tally.{codeOf, KindPlaces, reachedBelow, countPlace, counterAtPlace, boundFor, boundAt, Bounds}
+use Rattle.monitor.specs.Tally.{stampedBy, withActive}
+use Rattle.monitor.proofs.Counts.{withCounts, counted-alone, stampedIn, stamped-alone, stamped-bounds}
+use Rattle.monitor.proofs.Counts.{kind-place-few, reached-few}
+use Rattle.events.specs.Records.{callOf, recordRefusal, afterRecord, timedBy, recordAt, wholeRecords, NoneRefused}
+use Rattle.events.proofs.records.Laws.{completion-accepted, timed-alone}
+use Rattle.events.proofs.files.Laws.{Replayed, one-more}
+
+-- the monitor, with the active window that is kept apart, is what the records before i leave; none of them was refused,
+-- and the tables are those of its settings, stamps and latencies
+pub record Stretched
+    (m : Monitor)
+    (s thresholds kinds : List ℕ)
+    (a : Active)
+    (monitor : Monitor)
+    (end i : ℕ)
+    : Type 0
+  where
+    pub before : i ≤ end
+    pub within : end ≤ wholeRecords s
+    pub in-force : thresholds ≡ monitor .settings .thresholds
+    pub places : KindPlaces (monitor .settings .enabled) kinds
+    pub bound : Bounds (withActive monitor a) (a .bounds)
+    pub sizes : (length (a .bounds) ≡ 28) × (length (a .stamps) ≡ 12) × (length (a .latencies) ≡ 12)
+    pub accepted : NoneRefused s i
+    pub played : Replayed m s (withActive monitor a) i
+
+-- time takes nothing from the active window
+same-time : (m : Monitor) (a : Active) (r : List ℕ) → timedBy m r ≡ timedBy (withActive m a) r
+unfolding timedBy passedBy clockedBy
+same-time m a r = by (callOf r)
+  where
+    call : (c : Call) → timeBy m c ≡ timeBy (withActive m a) c
+    call (settings s) = refl
+    call (completion c) = refl
+    call (elapsed ms) = refl
+    call (clock value) = refl
+    call powerUp = refl
+    call (page n) = refl
+    call (settingsBack n) = refl
+    call (belowA w) = refl
+
+    by : (o : Option Call) → found (standing m) (timeBy m) o ≡ found (standing (withActive m a)) (timeBy (withActive m a)) o
+    by none = refl
+    by (some c) = call c
+
+-- one record more that nothing turns away
+accepted-more :
+    (s : List ℕ) (i : ℕ) → NoneRefused s i → recordRefusal (recordAt s i) ≡ none → NoneRefused s (i + 1)
+accepted-more s i before here j h = by (eqb j i) refl
+  where
+    by : (t : Bool) → eqb j i ≡ t → recordRefusal (recordAt s j) ≡ none
+    by true e = let same : j ≡ i = eqb-true j i e in rw same here
+    by false e = let other = eqb-false j i e in before j (by-cases other)
+      where
+        by-cases : (j ≡ i → ⊥) → j < i
+        by-cases other = omega arith
+
+module _
+    {m : Monitor}
+    {s thresholds kinds : List ℕ}
+    {a : Active}
+    {monitor : Monitor}
+    {end i : ℕ}
+    (at : Stretched m s thresholds kinds a monitor end i)
+  where
+    -- the first record that does more ends the stretch
+    pub stretch-ends : Stretched m s thresholds kinds a monitor i i
+    stretch-ends =
+        record {
+          before = omega arith;
+          within = omega (arith, at .before, at .within);
+          in-force = at .in-force;
+          places = at .places;
+          bound = at .bound;
+          sizes = at .sizes;
+          accepted = at .accepted;
+          played = at .played;
+        }
+
+    -- what a kind adds to a place
+    pub added : (c : Command) (code : ℕ) → code ≡ codeOf c → getD kinds code 0 ≤ 15
+    added c code e = rw (e, at .places c) (kind-place-few (monitor .settings .enabled) c)
+
+    pub few-reached : (us reached : ℕ) → reached ≡ reachedBelow thresholds us 4 → reached ≤ 4
+    few-reached us reached e = omega (arith, reached-few thresholds us 4)
+
+    -- the place of a completion's count
+    in-place :
+        (c : Command) (code reached : ℕ) →
+        code ≡ codeOf c →
+        reached ≡ reachedBelow thresholds (c .latency) 4 →
+        3 * reached + getD kinds code 0 ≡ countPlace (monitor .settings) c
+    in-place c code reached code-is reached-is = rw (← at .places c, ← at .in-force, ← reached-is, code-is)
+
+    module _ (r : List ℕ) (here : r ≡ recordAt s i) (more : i < end) where
+      next :
+          (a' : Active) (monitor' : Monitor) →
+          thresholds ≡ monitor' .settings .thresholds →
+          KindPlaces (monitor' .settings .enabled) kinds →
+          Bounds (withActive monitor' a') (a' .bounds) →
+          (length (a' .bounds) ≡ 28) × (length (a' .stamps) ≡ 12) × (length (a' .latencies) ≡ 12) →
+          recordRefusal r ≡ none →
+          withActive monitor' a' ≡ afterRecord (withActive monitor a) r →
+          Stretched m s thresholds kinds a' monitor' end (i + 1)
+      next a' monitor' in-force places bound sizes none-refused same =
+          record {
+            before = omega arith;
+            within = at .within;
+            in-force = in-force;
+            places = places;
+            bound = bound;
+            sizes = sizes;
+            accepted = accepted-more s i (at .accepted) (rw here at none-refused);
+            played = one-more m s _ _ i r (at .played) here same (omega (arith, more, at .within));
+          }
+
+      -- a completion, at its place
+      module _
+          (c : Command)
+          (call : callOf r ≡ some (completion c))
+          (code reached place count : ℕ)
+          (code-is : code ≡ codeOf c)
+          (reached-is : reached ≡ reachedBelow thresholds (c .latency) 4)
+          (place-is : place ≡ 3 * reached + getD kinds code 0)
+          (count-is : count ≡ onceMore (getD (a .counts) place 0))
+        where
+          counts-there : place ≡ countPlace (monitor .settings) c
+          counts-there = place-is ∙ in-place c code reached code-is reached-is
+
+          -- it does nothing but count
+          pub one-counted :
+              c .latency < getD (a .bounds) place 0 →
+              Stretched m s thresholds kinds (withCounts a (set (a .counts) place count)) monitor end (i + 1)
+          unfolding afterRecord playFrom boundAt boundFor
+          one-counted below =
+              next _ monitor (at .in-force) (at .places) (at .bound) (at .sizes) (completion-accepted r c call)
+              (rw (call, count-is)
+              (counted-alone monitor a c place counts-there (λ (h : place < 15). rw (at .bound place h) at below)))
+
+          -- it loads its counter's stamp, at the most
+          pub one-stamped :
+              (n : ℕ) (l : Stamped) →
+              n ≡ counterAtPlace place →
+              l ≡
+              stampedBy monitor place c (getD (a .stamps) n 0) (getD (a .latencies) n 0) (getD (a .units) n false)
+              (getD (a .loaded) n 0) →
+              l .alone ≡ true →
+              Stretched m s thresholds kinds (withCounts (stampedIn a place n l) (set (a .counts) place count)) monitor end
+              (i + 1)
+          unfolding afterRecord playFrom boundAt boundFor
+          one-stamped n l n-is l-is alone =
+              next _ monitor (at .in-force) (at .places)
+              (stamped-bounds monitor a c place n l counts-there n-is l-is alone (at .bound) (at .sizes .0) (at .sizes .1)
+              (at .sizes .2)) (
+                length-set (a .bounds) place (l .bound) ∙ at .sizes .0,
+                length-set (a .stamps) n (l .stamp) ∙ at .sizes .1,
+                length-set (a .latencies) n (l .latency) ∙ at .sizes .2,
+              )
+              (completion-accepted r c call)
+              (rw (call, count-is) (stamped-alone monitor a c place n l counts-there n-is l-is alone))
+
+      -- the clock and the timer alone
+      pub time-went-on :
+          (p : Passed) →
+          p ≡ timedBy monitor r →
+          p .alone ≡ true →
+          Stretched m s thresholds kinds a (withTime monitor p) end (i + 1)
+      unfolding boundAt boundFor
+      time-went-on p e alone =
+          let same = e ∙ same-time monitor a r in
+          let rule = timed-alone (withActive monitor a) r (rw same at alone) in
+          next a (withTime monitor p) (at .in-force) (at .places) (at .bound) (at .sizes) (rule .1) (rw same (rule .0))

@@ -1,0 +1,72 @@
+-- `counters_of`: those below n are taken.
+use mathlib.Core.Path.{_≡_, refl}
+use Prim.Native.Nat.{ℕ, _+_, _≤_, _-_}
+use native.Mathlib.Nat.{add-zero}
+use native.Mathlib.Omega.{arith}
+use lib.ListN.{length, getD}
+use Rattle.monitor.proofs.tally.Laws.{Filled, filled-more, taken-counters}
+use borrow.Author.Needs.{needs}
+use Rattle.monitor.proofs.tally.counters_of.Statement.{statement}
+use Rattle.monitor.proofs.tally.counters_of.Tie as tie
+
+abbrev Inv-loop : tie.InvT-loop
+Inv-loop counts counters₀ n₀ counters n =
+    (n ≤ 12) × (length counters ≡ 12) × Filled (λ (j : ℕ). getD counts (j + 3) 0) 0 counters n
+
+abbrev μ-loop : tie.MeasureT-loop
+μ-loop counts counters₀ n₀ counters n = 12 - n
+
+loop-holds : tie.Need-loop-holds Inv-loop μ-loop
+loop-holds c = (search needs, search needs, λ j h. absurd (omega arith))
+
+add-counters : tie.Need-add-counters Inv-loop μ-loop
+add-counters c = search needs
+
+mul-counters : tie.Need-mul-counters Inv-loop μ-loop
+mul-counters c = search needs
+
+array-read-counters : tie.Need-array-read-counters Inv-loop μ-loop
+array-read-counters c = search needs
+
+mul-counters-2 : tie.Need-mul-counters-2 Inv-loop μ-loop
+mul-counters-2 c = search needs
+
+array-write-counters : tie.Need-array-write-counters Inv-loop μ-loop
+array-write-counters c = search needs
+
+add-n : tie.Need-add-n Inv-loop μ-loop
+add-n c = search needs
+
+loop-less : tie.Need-loop-less Inv-loop μ-loop
+loop-less c = search needs
+
+loop-again : tie.Need-loop-again Inv-loop μ-loop
+loop-again c =
+    let l = c .before .loop in (
+      search needs,
+      search needs,
+      rw (add-zero (l .n)) at (filled-more _ 0 (l .counters) (l .n) _ (l .inv .2) (search needs) refl),
+    )
+
+returns : tie.Need-returns Inv-loop μ-loop
+returns c =
+    let l = c .before .loop in
+    let all : l .n ≡ 12 = omega (arith, l .inv .0) in
+    taken-counters (c .before .before .args .t1) (l .counters) (search needs) (l .inv .1) (rw all at (l .inv .2))
+
+pub counters-of-spec : {M : Type 1} → statement M
+counters-of-spec =
+    tie.close
+    (tie.spec
+    Inv-loop
+    μ-loop
+    loop-holds
+    add-counters
+    mul-counters
+    array-read-counters
+    mul-counters-2
+    array-write-counters
+    add-n
+    loop-less
+    loop-again
+    returns)

@@ -1,0 +1,321 @@
+// The active window, taken out of the record for a loop over many completions. Its counts stand in one array: those below
+// threshold A, by kind, at places 0 to 2, and counter n's at 3 + n. From place 15 on none is kept.
+ghost use mathlib.Core.Path.{_≡_};
+ghost use Prim.Native.Nat.{_+_, _*_, _<_, min};
+ghost use lib.ListN.{take, drop};
+ghost use Rattle.monitor.specs.Counting.{onceMore};
+ghost use Rattle.monitor.specs.Tally.{codeOf, kindPlace, KindPlaces, reachedBelow, counterAtPlace, boundFor, Bounds};
+ghost use Rattle.monitor.specs.Tally.{atMostLoads, stampedBy, withActive};
+use crate::commands;
+use crate::commands::Command;
+use crate::counting;
+use crate::record::Monitor;
+use crate::settings;
+use crate::timer;
+use logpage::UNSET;
+use logpage::Window;
+
+// The places that hold a count, and the first of those that hold none.
+const PLACES: usize = 15;
+
+const NO_PLACE: u8 = 15;
+
+// The bound where a completion can only count: every latency but the largest is below it.
+const NO_BOUND: u32 = 4_294_967_295;
+
+pub struct Active {
+    pub counts: [u32; 28],
+    // For each place, the latency from which on a completion may do more than count there.
+    pub bounds: [u32; 28],
+    // For each counter, as in the record.
+    pub stamps: [u64; 12],
+    pub latencies: [u16; 12],
+    pub units: [bool; 12],
+    pub loaded: [u64; 12],
+}
+
+// What a completion leaves of its counter, and of the bound of its place.
+pub struct Stamped {
+    pub stamp: u64,
+    pub latency: u16,
+    pub units: bool,
+    pub loaded: u64,
+    pub bound: u32,
+    // Whether it changes these and its count alone.
+    pub alone: bool,
+}
+
+// What a command's kind adds to the place of its count.
+fn kind_place(enabled: bool, c: Command) -> u8
+    ensures { λ r. ⌜ r ≡ kindPlace enabled c ⌝ }
+{
+    let kind = commands::kind_number(c.kind());
+    if enabled {
+        if kind < commands::NO_KIND {
+            kind as u8
+        } else {
+            NO_PLACE
+        }
+    } else {
+        NO_PLACE
+    }
+}
+
+// That by the command's code, for all of them: a table has no branch that a processor could guess wrong.
+pub fn kind_places(enabled: bool) -> [u8; 32]
+    ensures { λ r. ⌜ KindPlaces enabled r ⌝ }
+{
+    let mut places: [u8; 32] = [NO_PLACE; 32];
+    let mut i: usize = 0;
+    while i < 32 {
+        let c = Command {
+            latency: 0,
+            opcode: (i % 16) as u8,
+            deallocate: 16 <= i,
+        };
+        places[i] = kind_place(enabled, c);
+        i += 1;
+    }
+    places
+}
+
+// A count after one more completion; held at its top.
+pub fn once_more(count: u32) -> u32
+    ensures { λ r. ⌜ r ≡ onceMore count ⌝ }
+{
+    counting::counted_once(count, true)
+}
+
+// An opcode; those from 15 on are as one.
+fn short(opcode: u8) -> usize
+    ensures { λ r. ⌜ r ≡ min opcode 15 ⌝ }
+{
+    if opcode < 15 { opcode as usize } else { 15 }
+}
+
+impl Command {
+    // All that a command's kind depends on: the opcode, and 16 more with the deallocate attribute or bit.
+    pub fn code(self) -> usize
+        ensures { λ r. ⌜ r ≡ codeOf self ⌝ }
+    {
+        short(self.opcode) + 16 * (counting::one_if(self.deallocate) as usize)
+    }
+
+    // How many thresholds the latency reaches. All four are compared, and none by a branch.
+    pub fn reached(self, thresholds: [u8; 4]) -> usize
+        ensures { λ r. ⌜ r ≡ reachedBelow thresholds (self .latency) 4 ⌝ }
+    {
+        let latency = self.latency;
+        let mut reached = 0;
+        let mut b = 0;
+        while b < 4 {
+            reached += counting::one_if(commands::reaches(latency, thresholds[b])) as usize;
+            b += 1;
+        }
+        reached
+    }
+}
+
+// The lowest latency, in microseconds, of more ms than these.
+fn above(ms: u16) -> u32
+    ensures { λ r. ⌜ r ≡ 1000 * (ms + 1) ⌝ }
+{
+    1000 * (ms as u32 + 1)
+}
+
+// Counts below threshold A and counters in one array.
+fn joined(below: [u32; 3], counters: [u32; 12]) -> [u32; 28]
+    ensures below { λ r. ⌜ take 3 r ≡ below ⌝ }
+    ensures counters { λ r. ⌜ take 12 (drop 3 r) ≡ counters ⌝ }
+{
+    let mut counts: [u32; 28] = [0; 28];
+    counts[0] = below[0];
+    counts[1] = below[1];
+    counts[2] = below[2];
+    let mut n = 0;
+    while n < 12 {
+        counts[n + 3] = counters[n];
+        n += 1;
+    }
+    counts
+}
+
+// The counts below threshold A of such an array.
+fn below_of(counts: [u32; 28]) -> [u32; 3]
+    ensures { λ r. ⌜ r ≡ take 3 counts ⌝ }
+{
+    [counts[0], counts[1], counts[2]]
+}
+
+// The counters of such an array.
+fn counters_of(counts: [u32; 28]) -> [u32; 12]
+    ensures { λ r. ⌜ r ≡ take 12 (drop 3 counts) ⌝ }
+{
+    let mut counters: [u32; 12] = [0; 12];
+    let mut n = 0;
+    while n < 12 {
+        counters[n] = counts[n + 3];
+        n += 1;
+    }
+    counters
+}
+
+// The counter of a place; 0 for a place that is no counter's.
+pub fn counter_at(place: usize) -> usize
+    ensures { λ r. ⌜ r ≡ counterAtPlace place ⌝ }
+{
+    if place < PLACES {
+        if place < 3 { 0 } else { place - 3 }
+    } else {
+        0
+    }
+}
+
+impl Monitor {
+    // The latency from which on a completion for counter n, with this stamp and measured latency, may load the stamp, or
+    // takes a debug log.
+    fn bound(self, n: usize, stamp: u64, latency: u16) -> u32
+        requires { ⌜ n < 12 ⌝ }
+        ensures { λ r. ⌜ r ≡ boundFor self n stamp latency ⌝ }
+    {
+        if counting::triggers(self.settings.trigger, n, self.debug.stamp) {
+            0
+        } else if stamp == UNSET {
+            0
+        } else if counting::bit(self.settings.mode, n) {
+            above(latency)
+        } else {
+            NO_BOUND
+        }
+    }
+
+    // The bounds of all places.
+    fn bounds(self) -> [u32; 28]
+        ensures { λ r. ⌜ Bounds self r ⌝ }
+    {
+        let thresholds = self.settings.thresholds;
+        let mut bounds: [u32; 28] = [0; 28];
+        if settings::unordered(thresholds) {
+            return bounds;
+        }
+        bounds = [NO_BOUND; 28];
+        let stamps = self.active_window.stamps;
+        let latencies = self.active_window.latencies;
+        let mut n = 0;
+        while n < 12 {
+            bounds[n + 3] = self.bound(n, stamps[n], latencies[n]);
+            n += 1;
+        }
+        bounds
+    }
+
+    // The active window.
+    pub fn active(self) -> Active
+        ensures window { λ r. ⌜ withActive self r ≡ self ⌝ }
+        ensures bounds { λ r. ⌜ Bounds self (r .bounds) ⌝ }
+    {
+        let below_a = self.active_below_a;
+        let counters = self.active_window.counters;
+        let counts = joined(below_a, counters);
+        let bounds = self.bounds();
+        let stamps = self.active_window.stamps;
+        let latencies = self.active_window.latencies;
+        let units = self.active_window.units;
+        let loaded = self.loaded;
+        Active {
+            counts,
+            bounds,
+            stamps,
+            latencies,
+            units,
+            loaded,
+        }
+    }
+
+    // The record with this active window.
+    pub fn with_active(mut self, a: Active) -> Self
+        ensures { λ r. ⌜ r ≡ withActive self a ⌝ }
+    {
+        let counts = a.counts;
+        let below_a = below_of(counts);
+        let counters = counters_of(counts);
+        let stamps = a.stamps;
+        let latencies = a.latencies;
+        let units = a.units;
+        let loaded = a.loaded;
+        self.active_below_a = below_a;
+        self.active_window = Window::of(counters, stamps, latencies, units);
+        self.loaded = loaded;
+        self
+    }
+
+    // Whether a completion has a counter, by its place, which says it for thresholds in order, and takes no debug log: then
+    // it loads the stamp, at the most.
+    fn at_most_loads(self, place: usize) -> bool
+        ensures { λ r. ⌜ r ≡ atMostLoads self place ⌝ }
+    {
+        let thresholds = self.settings.thresholds;
+        if place < 3 {
+            false
+        } else if place < PLACES {
+            if settings::unordered(thresholds) {
+                false
+            } else {
+                !counting::triggers(self.settings.trigger, place - 3, self.debug.stamp)
+            }
+        } else {
+            false
+        }
+    }
+
+    // A completion at a place whose counter has this stamp, measured latency, stamp units and load time.
+    pub fn stamped(
+        self,
+        place: usize,
+        c: Command,
+        stamp: u64,
+        latency: u16,
+        units: bool,
+        loaded: u64,
+    ) -> Stamped
+        ensures { λ r. ⌜ r ≡ stampedBy self place c stamp latency units loaded ⌝ }
+    {
+        if self.at_most_loads(place) {
+            let n = place - 3;
+            let ms = c.milliseconds();
+            let time = timer::in_window(self.timer, self.partial);
+            let largest = counting::bit(self.settings.mode, n);
+            let minimum = self.settings.minimum_window;
+            if counting::loads(stamp, latency, loaded, ms, largest, minimum, time) {
+                let bound = self.bound(n, self.clock, ms);
+                Stamped {
+                    stamp: self.clock,
+                    latency: ms,
+                    units: self.host_set,
+                    loaded: time,
+                    bound,
+                    alone: true,
+                }
+            } else {
+                let bound = self.bound(n, stamp, latency);
+                Stamped {
+                    stamp,
+                    latency,
+                    units,
+                    loaded,
+                    bound,
+                    alone: true,
+                }
+            }
+        } else {
+            Stamped {
+                stamp,
+                latency,
+                units,
+                loaded,
+                bound: 0,
+                alone: false,
+            }
+        }
+    }
+}
