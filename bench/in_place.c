@@ -196,11 +196,20 @@ static uint16_t milliseconds(uint32_t us)
     return ms > UINT16_MAX ? UINT16_MAX : (uint16_t)ms;
 }
 
+/* A count, held at its top. */
+static uint32_t held(in_place_count count)
+{
+    return count < UINT32_MAX ? (uint32_t)count : UINT32_MAX;
+}
+
 /* Adds one, up to the top. The counters are behind the counts below A. */
 static void count(struct in_place *m, unsigned at)
 {
-    if (m->active_window.count[at] != UINT32_MAX)
-        m->active_window.count[at]++;
+#ifndef LIMITS
+    if (m->active_window.count[at] == UINT32_MAX)
+        return;
+#endif
+    m->active_window.count[at]++;
 }
 
 /* The answer to a completion that is counted for counter n, and does no more. */
@@ -374,7 +383,7 @@ uint8_t in_place_power_up(struct in_place *m)
 
 static struct latency_monitor_below_a below_a(const struct in_place_window *w)
 {
-    return (struct latency_monitor_below_a){w->count[0], w->count[1], w->count[2]};
+    return (struct latency_monitor_below_a){held(w->count[0]), held(w->count[1]), held(w->count[2])};
 }
 
 struct latency_monitor_below_a in_place_active_below_a(const struct in_place *m)
@@ -390,9 +399,9 @@ struct latency_monitor_below_a in_place_static_below_a(const struct in_place *m)
 static void put_window(uint8_t *p, const struct in_place_window *w)
 {
     for (int b = 0; b < 4; b++) {
-        put32(p + 16 * b + 4, w->count[KINDS + 3 * b + 2]);
-        put32(p + 16 * b + 8, w->count[KINDS + 3 * b + 1]);
-        put32(p + 16 * b + 12, w->count[KINDS + 3 * b]);
+        put32(p + 16 * b + 4, held(w->count[KINDS + 3 * b + 2]));
+        put32(p + 16 * b + 8, held(w->count[KINDS + 3 * b + 1]));
+        put32(p + 16 * b + 12, held(w->count[KINDS + 3 * b]));
     }
     for (int n = 0; n < LATENCY_MONITOR_COUNTERS; n++) {
         put64(p + 64 + 8 * (LATENCY_MONITOR_COUNTERS - 1 - n), w->stamp[n]);

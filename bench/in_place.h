@@ -4,8 +4,8 @@
  *   as it is      the bucket is found by branches, which is quick where their order is learnt
  *   BRANCH_FREE   the bucket is a sum of comparisons, and the table of kinds is asked without a test before it
  *   LIMITS        the product's stretch given to C: the bucket is a sum of comparisons, below A included; each counter
- *                 has a latency from which on a completion has more to do than to count; and what has no kind is
- *                 counted where nobody looks
+ *                 has a latency from which on a completion has more to do than to count; what has no kind is counted
+ *                 where nobody looks; and counts go on past their top, and are held where they are shown
  */
 #ifndef IN_PLACE_H
 #define IN_PLACE_H
@@ -16,14 +16,16 @@ enum { KINDS = 3 };
 
 /* The counts of a window: those below A, the counters, and with LIMITS those of no kind. */
 #ifdef LIMITS
+typedef uint64_t in_place_count;
 enum { NO_KIND = KINDS + LATENCY_MONITOR_COUNTERS, COUNTS = NO_KIND + 13 };
 #else
+typedef uint32_t in_place_count;
 enum { COUNTS = KINDS + LATENCY_MONITOR_COUNTERS };
 #endif
 
 struct in_place_window {
     uint64_t stamp[LATENCY_MONITOR_COUNTERS];
-    uint32_t count[COUNTS];
+    in_place_count count[COUNTS];
     uint16_t latency[LATENCY_MONITOR_COUNTERS];
     uint16_t units; /* bit n for counter n */
 };

@@ -1,11 +1,12 @@
 // One record: the call that it stands for.
 ghost use mathlib.Core.Path.{_≡_};
 ghost use mathlib.Core.Bool.{true, false, not};
-ghost use Prim.Native.Nat.{_+_, _≤_};
+ghost use Prim.Native.Nat.{_+_, _≤_, _<_};
 ghost use lib.ListN.{length, replicate};
 ghost use Rattle.endian.specs.Bytes.{anySet};
 ghost use Rattle.monitor.specs.Answers.{saysAnswer, saysElapsed, refused};
 ghost use Rattle.monitor.specs.Record.{afterSettings, settingsAnswer};
+ghost use Rattle.monitor.specs.Tally.{codeOf};
 ghost use Rattle.events.specs.Records.{unnamed, settingsBytes, commandOf, isKind, isCompletion, isElapsed};
 ghost use Rattle.events.specs.Records.{afterRecord, timedBy, recordAnswer};
 use monitor::Answer;
@@ -80,6 +81,15 @@ pub(crate) fn command(r: &[u8]) -> Command
         deallocate: r[2] == 1,
         latency: endian::load(&r[4..8]) as u32,
     }
+}
+
+// The code of a completion's command, whose parts are bytes 1 and 2.
+pub(crate) fn code(r: &[u8]) -> usize
+    requires { ⌜ (length (now r) ≡ 16) × (isCompletion (now r) ≡ true) ⌝ }
+    ensures code { λ n. ⌜ n ≡ codeOf (commandOf (now (r .entry))) ⌝ }
+    ensures few { λ n. ⌜ n < 512 ⌝ }
+{
+    2 * (r[1] as usize) + (r[2] as usize)
 }
 
 // What settings bytes start as.

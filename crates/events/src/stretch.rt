@@ -30,9 +30,9 @@ pub(crate) fn stretch(m: Monitor, s: &[u8]) -> Played
         let r = &s[from..from + records::RECORD];
         if records::is_completion(r) {
             let c = records::command(r);
-            let place = 3 * c.reached(thresholds) + kinds[c.code()] as usize;
+            let place = 3 * c.reached(thresholds) + kinds[records::code(r)] as usize;
             if c.latency < a.bounds[place] {
-                a.counts[place] = monitor::once_more(a.counts[place]);
+                a.counts[place] += 1;
                 i += 1;
             } else {
                 let n = monitor::counter_at(place);
@@ -45,7 +45,7 @@ pub(crate) fn stretch(m: Monitor, s: &[u8]) -> Played
                     a.loaded[n],
                 );
                 if l.alone {
-                    a.counts[place] = monitor::once_more(a.counts[place]);
+                    a.counts[place] += 1;
                     a.bounds[place] = l.bound;
                     a.stamps[n] = l.stamp;
                     a.latencies[n] = l.latency;

@@ -3,37 +3,68 @@ use mathlib.Core.Path.{_≡_, refl, sym, ap, _∙_}
 use mathlib.Core.Bool.{Bool, true, false, cond, true≢false, _||_}
 use mathlib.Core.List.{List}
 use mathlib.Core.Option.{Option, none, some}
-use Prim.Native.Nat.{ℕ, zero, suc, _+_, _*_, _-_, _≤_, _<_, min}
+use Prim.Native.Nat.{ℕ, zero, suc, _+_, _*_, _-_, _≤_, _<_}
 use native.Mathlib.Omega.{arith}
 use borrow.Author.Tests.{eqb-true, eqb-false, lt-ltb, le-ltb, leb-true, le-leb, ltb-true, ltb-false}
 use lib.Dec.{eqb, ltb}
-use lib.ListN.{length, getD, set, take, drop}
+use lib.ListN.{length, getD, set, take, drop, replicate}
 use lib.Seq.{getD-take, getD-drop, getD-set-same, getD-set-other, set-getD, take-set-le, take-set-lt, drop-set-add}
-use lib.Seq.{drop-set-lt}
+use lib.Seq.{drop-set-lt, set-out}
 use Rattle.logpage.specs.Fields.{unset}
 use Rattle.logpage.specs.declared.Settings.{Settings}
 use Rattle.monitor.specs.declared.commands.Command.{Command}
 use Rattle.monitor.specs.declared.record.Monitor.{Monitor}
 use Rattle.monitor.specs.Commands.{kindOf, kindNumber, reaches, reachesA, highest, bucketOf}
 use Rattle.monitor.specs.Commands.{counterAt, counterOf, isBelowA, belowAOf, millisecondsOf}
-use Rattle.monitor.specs.Counting.{bit, onceMore, onceMoreAt, loads, countedIn}
+use Rattle.monitor.specs.Counting.{bit, held, onceMore, onceMoreAt, loads, countedIn}
 use Rattle.monitor.specs.Record.{afterCompletion, loadsAt, triggersAt}
 use Rattle.monitor.specs.Refusals.{unordered}
 use Rattle.monitor.specs.Timer.{inWindow}
 use Rattle.monitor.specs.declared.tally.Active.{Active}
 use Rattle.monitor.specs.declared.tally.Stamped.{Stamped}
-use Rattle.monitor.specs.Tally.{codeOf, kindPlace, reachedBelow, countPlace, counterAtPlace, boundFor, counterBound}
-use Rattle.monitor.specs.Tally.{boundAt, Bounds, atMostLoads, stampedBy, withActive}
-use Rattle.monitor.proofs.tally.Laws.{has-counter}
+use Rattle.monitor.specs.Tally.{kindPlace, reachedBelow, countPlace, heldAll, counterAtPlace, boundFor, counterBound}
+use Rattle.monitor.specs.Tally.{AtMost, boundAt, Bounds, atMostLoads, stampedBy, withActive}
+use Rattle.monitor.proofs.tally.Laws.{held-at, held-set, has-counter}
 use Rattle.monitor.proofs.commands.Laws.{Becomes, slow, fast, kindless, disabled, becomes}
 
--- there are 32 codes
-pub few-codes : (c : Command) → codeOf c < 32
-few-codes c = by (c .deallocate)
+-- counts that are at most so many, after another at a place
+pub at-most-set :
+    {top top' : ℕ} (counts : List ℕ) (place v : ℕ) →
+    AtMost top counts →
+    top ≤ top' →
+    v ≤ top' →
+    AtMost top' (set counts place v)
+at-most-set {top' = top'} counts place v before more few p = by (eqb p place) refl (ltb place (length counts)) refl
   where
-    by : (d : Bool) → min (c .opcode) 15 + cond d 16 0 < 32
-    by true = omega arith
-    by false = omega arith
+    by :
+        (t : Bool) →
+        eqb p place ≡ t →
+        (u : Bool) →
+        ltb place (length counts) ≡ u →
+        getD (set counts place v) p 0 ≤ top'
+    by true e true h =
+        let same : p ≡ place = eqb-true p place e in
+        rw (same, getD-set-same counts place v 0 (ltb-true place (length counts) h)) few
+    by true e false h =
+        rw (set-out counts place v (ltb-false place (length counts) h)) (omega (arith, before p))
+    by false e u h = rw (getD-set-other counts place p v 0 (eqb-false p place e)) (omega (arith, before p))
+
+no-count : (top n : ℕ) → AtMost top (replicate n 0)
+no-count top zero place = omega arith
+no-count top (suc n) zero = omega arith
+no-count top (suc n) (suc place) = no-count top n place
+
+pub three-at-most :
+    {top : ℕ} (a b c : ℕ) →
+    a ≤ top →
+    b ≤ top →
+    c ≤ top →
+    AtMost top (set (set (set (replicate 28 0) 0 a) 1 b) 2 c)
+three-at-most {top} a b c first second third =
+    let none = no-count top 28 in
+    let one = at-most-set (replicate 28 0) 0 a none (omega arith) first in
+    let two = at-most-set (set (replicate 28 0) 0 a) 1 b one (omega arith) second in
+    at-most-set (set (set (replicate 28 0) 0 a) 1 b) 2 c two (omega arith) third
 
 -- of the first n thresholds at most n are reached
 pub reached-few : (thresholds : List ℕ) (us n : ℕ) → reachedBelow thresholds us n ≤ n
@@ -133,7 +164,7 @@ kind-place-is :
 unfolding kindPlace
 kind-place-is s c k few on kind = rw (on, kind, lt-ltb k 3 few)
 
-kindless-place : (enabled : Bool) (c : Command) → kindOf c ≡ none → kindPlace enabled c ≡ 15
+pub kindless-place : (enabled : Bool) (c : Command) → kindOf c ≡ none → kindPlace enabled c ≡ 15
 unfolding kindPlace
 kindless-place true c kind = rw kind
 kindless-place false c kind = refl
@@ -230,6 +261,15 @@ withCounts a counts =
       loaded = a .loaded;
     }
 
+-- one more at a place, not held: that comes when the record is put together
+abbrev pub oneMoreAt : List ℕ → ℕ → List ℕ
+oneMoreAt counts p = set counts p (getD counts p 0 + 1)
+
+held-more : (counts : List ℕ) (p : ℕ) → heldAll (oneMoreAt counts p) ≡ onceMoreAt (heldAll counts) p
+held-more counts p =
+    let same : held (getD counts p 0 + 1) ≡ held (held (getD counts p 0) + 1) = omega arith in
+    held-set counts p (getD counts p 0 + 1) ∙ rw (held-at counts p) (ap (set (heldAll counts) p) same)
+
 -- what a completion leaves that is below the bound of its place: one more there
 module _
     (m : Monitor)
@@ -247,15 +287,15 @@ module _
         by false e = refl
         by true e = absurd (omega (arith, rw e at (lower h)))
 
-    pub counted-alone : withActive m (withCounts a (onceMoreAt (a .counts) p)) ≡ afterCompletion (withActive m a) c
+    pub counted-alone : withActive m (withCounts a (oneMoreAt (a .counts) p)) ≡ afterCompletion (withActive m a) c
     unfolding afterCompletion countedIn boundAt
     counted-alone = by (placed (m .settings) c p place in-order)
       where
         by :
             Placed (m .settings) c p →
-            withActive m (withCounts a (onceMoreAt (a .counts) p)) ≡ afterCompletion (withActive m a) c
+            withActive m (withCounts a (oneMoreAt (a .counts) p)) ≡ afterCompletion (withActive m a) c
         by (for-counter n few at counter) =
-            let t = a .counts in
+            let t = heldAll (a .counts) in
             let less : p < 15 = omega arith in
             let back : 3 + n - 3 ≡ n = omega arith in
             let bound = rw (at, in-order less, le-ltb (3 + n) 3 (omega arith), back) at (lower less) in
@@ -265,16 +305,24 @@ module _
               counter,
               only .0,
               only .1,
+              held-more (a .counts) (3 + n),
               at-counter t n few,
               take-set-le 3 t (3 + n) (onceMore (getD t (3 + n) 0)) (omega arith),
             )
         by (below k few at counter e) =
-            let t = a .counts in
-            rw (at, counter, e, at-kind t k few, drop-set-lt 3 t k (onceMore (getD t k 0)) few)
+            let t = heldAll (a .counts) in
+            rw (
+              at,
+              counter,
+              e,
+              held-more (a .counts) k,
+              at-kind t k few,
+              drop-set-lt 3 t k (onceMore (getD t k 0)) few,
+            )
         by (nowhere h counter e) =
-            let t = a .counts in
+            let t = heldAll (a .counts) in
             let v = onceMore (getD t p 0) in
-            rw (counter, e, past-counters t p v h, take-set-le 3 t p v (omega arith))
+            rw (counter, e, held-more (a .counts) p, past-counters t p v h, take-set-le 3 t p v (omega arith))
 
 -- a place that is written, or written as it was
 set-or-keep :
@@ -287,7 +335,7 @@ set-or-keep false l n v d = set-getD l n d
 abbrev pub stampedIn : Active → (p n : ℕ) → Stamped → Active
 stampedIn a p n l =
     record {
-      counts = onceMoreAt (a .counts) p;
+      counts = oneMoreAt (a .counts) p;
       bounds = set (a .bounds) p (l .bound);
       stamps = set (a .stamps) n (l .stamp);
       latencies = set (a .latencies) n (l .latency);
@@ -334,6 +382,7 @@ module _
         by (nowhere h counter e) = absurd (omega (arith, has-counter m p can-load))
         by (for-counter x few at counter) =
             let same : x ≡ n = omega (arith, its-counter) in
+            let t = heldAll (a .counts) in
             let load = loadsAt (withActive m a) n (millisecondsOf c) in
             rw (
               is,
@@ -342,8 +391,9 @@ module _
               rw same at counter,
               no-log,
               its-counter,
-              at-counter (a .counts) n (rw same at few),
-              take-set-le 3 (a .counts) (3 + n) (onceMore (getD (a .counts) (3 + n) 0)) (omega arith),
+              held-more (a .counts) (3 + n),
+              at-counter t n (rw same at few),
+              take-set-le 3 t (3 + n) (onceMore (getD t (3 + n) 0)) (omega arith),
               set-or-keep load (a .stamps) n (m .clock) 0,
               set-or-keep load (a .latencies) n (millisecondsOf c) 0,
               set-or-keep load (a .units) n (m .«host_set») false,

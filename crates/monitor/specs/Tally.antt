@@ -1,9 +1,10 @@
 -- The active window, taken out of the record for a loop over many completions. Its counts stand in one list: those below
--- threshold A, by kind, at places 0 to 2, and counter n's at 3 + n. A place from 15 on is that of no count.
+-- threshold A, by kind, at places 0 to 2, and counter n's at 3 + n. A place from 15 on is that of no count. Counts go on
+-- past their top, where the record holds them.
 use mathlib.Core.Bool.{Bool, cond, not, _&&_, _||_}
-use mathlib.Core.List.{List}
+use mathlib.Core.List.{List, map}
 use mathlib.Core.Path.{_≡_}
-use Prim.Native.Nat.{ℕ, zero, suc, _+_, _-_, _*_, _<_, min}
+use Prim.Native.Nat.{ℕ, zero, suc, _+_, _-_, _*_, _<_, _≤_}
 use lib.Dec.{eqb, ltb}
 use lib.ListN.{getD, take, drop}
 use Rattle.logpage.specs.Fields.{unset}
@@ -13,22 +14,22 @@ use Rattle.monitor.specs.declared.record.Monitor.{Monitor}
 use Rattle.monitor.specs.declared.tally.Active.{Active}
 use Rattle.monitor.specs.declared.tally.Stamped.{Stamped}
 use Rattle.monitor.specs.Commands.{kindOf, kindNumber, reaches, millisecondsOf}
-use Rattle.monitor.specs.Counting.{bit, loads}
+use Rattle.monitor.specs.Counting.{held, bit, loads}
 use Rattle.monitor.specs.Record.{triggersAt}
 use Rattle.monitor.specs.Refusals.{unordered}
 use Rattle.monitor.specs.Timer.{inWindow}
 
--- all that a command's kind depends on: the opcode, those from 15 on as one, and the deallocate attribute or bit
+-- all that a command's kind depends on: the opcode, and the deallocate attribute or bit
 abbrev pub codeOf : Command → ℕ
-codeOf c = min (c .opcode) 15 + cond (c .deallocate) 16 0
+codeOf c = 2 * c .opcode + cond (c .deallocate) 1 0
 
 -- what the kind adds to the place: 15, past every count, where there is none or the monitor is disabled
 unfoldable pub kindPlace : Bool → Command → ℕ
 kindPlace enabled c = cond enabled (cond (ltb (kindNumber (kindOf c)) 3) (kindNumber (kindOf c)) 15) 15
 
--- a table of that, by code
+-- a table of that, by code; an opcode is a byte
 abbrev pub KindPlaces : Bool → List ℕ → Type 0
-KindPlaces enabled places = (c : Command) → getD places (codeOf c) 0 ≡ kindPlace enabled c
+KindPlaces enabled places = (c : Command) → codeOf c < 512 → getD places (codeOf c) 0 ≡ kindPlace enabled c
 
 -- how many of the first n thresholds a latency reaches: where they are in order, one more than its bucket, and 0 where
 -- it has none
@@ -39,6 +40,13 @@ reachedBelow thresholds us (suc n) = reachedBelow thresholds us n + cond (reache
 -- the place of a completion's count
 abbrev pub countPlace : Settings → Command → ℕ
 countPlace s c = 3 * reachedBelow (s .thresholds) (c .latency) 4 + kindPlace (s .enabled) c
+
+-- the counts as the record holds them
+abbrev pub heldAll : List ℕ → List ℕ
+heldAll counts = map held counts
+
+abbrev pub AtMost : ℕ → List ℕ → Type 0
+AtMost top counts = (place : ℕ) → getD counts place 0 ≤ top
 
 -- the counter of a place, and 0 where it is no counter's
 abbrev pub counterAtPlace : ℕ → ℕ
@@ -103,13 +111,13 @@ withActive m a =
       partial = m .partial;
       «active_window» =
           record {
-            counters = take 12 (drop 3 (a .counts));
+            counters = take 12 (drop 3 (heldAll (a .counts)));
             stamps = a .stamps;
             latencies = a .latencies;
             units = a .units;
           };
       loaded = a .loaded;
-      «active_below_a» = take 3 (a .counts);
+      «active_below_a» = take 3 (heldAll (a .counts));
       «static_window» = m .«static_window»;
       «static_below_a» = m .«static_below_a»;
       debug = m .debug;

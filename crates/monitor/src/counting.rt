@@ -9,7 +9,7 @@ ghost use Rattle.monitor.specs.Counting.{triggers, debugLog};
 use logpage::DebugLog;
 use logpage::UNSET;
 
-const COUNTER_TOP: u32 = 4_294_967_295;
+pub(crate) const COUNTER_TOP: u32 = 4_294_967_295;
 
 // Whether counter n's bit is set.
 pub(crate) fn bit(mask: u16, n: usize) -> bool

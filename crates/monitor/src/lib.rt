@@ -25,4 +25,3 @@ pub use tally::Active;
 pub use tally::Stamped;
 pub use tally::counter_at;
 pub use tally::kind_places;
-pub use tally::once_more;

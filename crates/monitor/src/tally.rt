@@ -1,11 +1,12 @@
 // The active window, taken out of the record for a loop over many completions. Its counts stand in one array: those below
-// threshold A, by kind, at places 0 to 2, and counter n's at 3 + n. From place 15 on none is kept.
+// threshold A, by kind, at places 0 to 2, and counter n's at 3 + n. From place 15 on none is kept. Counts go on past their
+// top, where the record holds them.
 ghost use mathlib.Core.Path.{_≡_};
-ghost use Prim.Native.Nat.{_+_, _*_, _<_, min};
+ghost use Prim.Native.Nat.{_+_, _*_, _<_, _≤_};
 ghost use lib.ListN.{take, drop};
-ghost use Rattle.monitor.specs.Counting.{onceMore};
-ghost use Rattle.monitor.specs.Tally.{codeOf, kindPlace, KindPlaces, reachedBelow, counterAtPlace, boundFor, Bounds};
-ghost use Rattle.monitor.specs.Tally.{atMostLoads, stampedBy, withActive};
+ghost use Rattle.monitor.specs.Counting.{held};
+ghost use Rattle.monitor.specs.Tally.{kindPlace, KindPlaces, reachedBelow, heldAll, AtMost, counterAtPlace};
+ghost use Rattle.monitor.specs.Tally.{boundFor, Bounds, atMostLoads, stampedBy, withActive};
 use crate::commands;
 use crate::commands::Command;
 use crate::counting;
@@ -24,7 +25,7 @@ const NO_PLACE: u8 = 15;
 const NO_BOUND: u32 = 4_294_967_295;
 
 pub struct Active {
-    pub counts: [u32; 28],
+    pub counts: [u64; 28],
     // For each place, the latency from which on a completion may do more than count there.
     pub bounds: [u32; 28],
     // For each counter, as in the record.
@@ -61,17 +62,18 @@ fn kind_place(enabled: bool, c: Command) -> u8
     }
 }
 
-// That by the command's code, for all of them: a table has no branch that a processor could guess wrong.
-pub fn kind_places(enabled: bool) -> [u8; 32]
+// That by the command's code, for all of them: a table has no branch that a processor could guess wrong. No opcode from
+// 16 on has a kind.
+pub fn kind_places(enabled: bool) -> [u8; 512]
     ensures { λ r. ⌜ KindPlaces enabled r ⌝ }
 {
-    let mut places: [u8; 32] = [NO_PLACE; 32];
+    let mut places: [u8; 512] = [NO_PLACE; 512];
     let mut i: usize = 0;
     while i < 32 {
         let c = Command {
             latency: 0,
-            opcode: (i % 16) as u8,
-            deallocate: 16 <= i,
+            opcode: (i / 2) as u8,
+            deallocate: i % 2 == 1,
         };
         places[i] = kind_place(enabled, c);
         i += 1;
@@ -79,28 +81,7 @@ pub fn kind_places(enabled: bool) -> [u8; 32]
     places
 }
 
-// A count after one more completion; held at its top.
-pub fn once_more(count: u32) -> u32
-    ensures { λ r. ⌜ r ≡ onceMore count ⌝ }
-{
-    counting::counted_once(count, true)
-}
-
-// An opcode; those from 15 on are as one.
-fn short(opcode: u8) -> usize
-    ensures { λ r. ⌜ r ≡ min opcode 15 ⌝ }
-{
-    if opcode < 15 { opcode as usize } else { 15 }
-}
-
 impl Command {
-    // All that a command's kind depends on: the opcode, and 16 more with the deallocate attribute or bit.
-    pub fn code(self) -> usize
-        ensures { λ r. ⌜ r ≡ codeOf self ⌝ }
-    {
-        short(self.opcode) + 16 * (counting::one_if(self.deallocate) as usize)
-    }
-
     // How many thresholds the latency reaches. All four are compared, and none by a branch.
     pub fn reached(self, thresholds: [u8; 4]) -> usize
         ensures { λ r. ⌜ r ≡ reachedBelow thresholds (self .latency) 4 ⌝ }
@@ -123,38 +104,58 @@ fn above(ms: u16) -> u32
     1000 * (ms as u32 + 1)
 }
 
-// Counts below threshold A and counters in one array.
-fn joined(below: [u32; 3], counters: [u32; 12]) -> [u32; 28]
-    ensures below { λ r. ⌜ take 3 r ≡ below ⌝ }
-    ensures counters { λ r. ⌜ take 12 (drop 3 r) ≡ counters ⌝ }
+// A count of the record, to go on from.
+fn wide(count: u32) -> u64
+    ensures count { λ r. ⌜ held r ≡ count ⌝ }
+    ensures top { λ r. ⌜ r ≤ 4294967295 ⌝ }
 {
-    let mut counts: [u32; 28] = [0; 28];
-    counts[0] = below[0];
-    counts[1] = below[1];
-    counts[2] = below[2];
+    count as u64
+}
+
+// A count, held at its top.
+fn held(count: u64) -> u32
+    ensures { λ r. ⌜ r ≡ held count ⌝ }
+{
+    if count < counting::COUNTER_TOP as u64 {
+        count as u32
+    } else {
+        counting::COUNTER_TOP
+    }
+}
+
+// Counts below threshold A and counters in one array.
+fn joined(below: [u32; 3], counters: [u32; 12]) -> [u64; 28]
+    ensures below { λ r. ⌜ take 3 (heldAll r) ≡ below ⌝ }
+    ensures counters { λ r. ⌜ take 12 (drop 3 (heldAll r)) ≡ counters ⌝ }
+    ensures top { λ r. ⌜ AtMost 4294967295 r ⌝ }
+{
+    let mut counts: [u64; 28] = [0; 28];
+    counts[0] = wide(below[0]);
+    counts[1] = wide(below[1]);
+    counts[2] = wide(below[2]);
     let mut n = 0;
     while n < 12 {
-        counts[n + 3] = counters[n];
+        counts[n + 3] = wide(counters[n]);
         n += 1;
     }
     counts
 }
 
 // The counts below threshold A of such an array.
-fn below_of(counts: [u32; 28]) -> [u32; 3]
-    ensures { λ r. ⌜ r ≡ take 3 counts ⌝ }
+fn below_of(counts: [u64; 28]) -> [u32; 3]
+    ensures { λ r. ⌜ r ≡ take 3 (heldAll counts) ⌝ }
 {
-    [counts[0], counts[1], counts[2]]
+    [held(counts[0]), held(counts[1]), held(counts[2])]
 }
 
 // The counters of such an array.
-fn counters_of(counts: [u32; 28]) -> [u32; 12]
-    ensures { λ r. ⌜ r ≡ take 12 (drop 3 counts) ⌝ }
+fn counters_of(counts: [u64; 28]) -> [u32; 12]
+    ensures { λ r. ⌜ r ≡ take 12 (drop 3 (heldAll counts)) ⌝ }
 {
     let mut counters: [u32; 12] = [0; 12];
     let mut n = 0;
     while n < 12 {
-        counters[n] = counts[n + 3];
+        counters[n] = held(counts[n + 3]);
         n += 1;
     }
     counters
@@ -213,6 +214,7 @@ impl Monitor {
     pub fn active(self) -> Active
         ensures window { λ r. ⌜ withActive self r ≡ self ⌝ }
         ensures bounds { λ r. ⌜ Bounds self (r .bounds) ⌝ }
+        ensures top { λ r. ⌜ AtMost 4294967295 (r .counts) ⌝ }
     {
         let below_a = self.active_below_a;
         let counters = self.active_window.counters;

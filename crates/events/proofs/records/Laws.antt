@@ -30,6 +30,7 @@ use Rattle.monitor.specs.Passing.{standing, passedBy, clockedBy, poweredBy, tim
 use Rattle.monitor.specs.Record.{settingsAnswer, completionAnswer, elapsedAnswer, clockAnswer}
 use Rattle.monitor.specs.Refusals.{settingsRefusal, elapsedRefusal, clockRefusal, pageRefusal, settingsBackRefusal}
 use Rattle.monitor.specs.Report.{pageAnswer, settingsBackAnswer}
+use Rattle.monitor.specs.Tally.{codeOf}
 use Rattle.events.specs.Records.{recordKind, part, unnamed, settingsBytes, commandOf, elapsedOf, clockOf, callOfKind}
 use Rattle.events.specs.Records.{attribute, completionOf, callOf, isKind, isCompletion, isElapsed}
 use Rattle.events.specs.Records.{recordRefusal, recordAnswer, saysRecord, afterRecord, timedBy}
@@ -77,6 +78,30 @@ module _ (r : List ℕ) (from to rest a : ℕ) where
       false ≡ not (anySet (unnamed from to rest r))
   not-cleared ea na short =
       first-set (part from to r) (drop rest r) (λ e. na (ea ∙ (loaded (drop from r) (to - from) short ∙ e)))
+
+-- the attribute of a completion, and with it the command's code
+module _ (r : List ℕ) (is : isCompletion r ≡ true) where
+  pub its-attribute : attribute r ≤ 1
+  unfolding isCompletion
+  its-attribute = by (leb (attribute r) 1) refl is
+    where
+      by : (t : Bool) → leb (attribute r) 1 ≡ t → (t && isKind 2 3 4 8 r) ≡ true → attribute r ≤ 1
+      by true h e = leb-true (attribute r) 1 h
+      by false h e = absurd (true≢false (sym e))
+
+  pub code-is : 2 * getD r 1 0 + getD r 2 0 ≡ codeOf (commandOf r)
+  unfolding commandOf
+  code-is = by (eqb (attribute r) 1) refl
+    where
+      by : (t : Bool) → eqb (attribute r) 1 ≡ t → 2 * getD r 1 0 + getD r 2 0 ≡ 2 * getD r 1 0 + cond (eqb (attribute r) 1) 1 0
+      by true e = rw e (omega (arith, eqb-true (attribute r) 1 e))
+      by false e =
+          let other = eqb-false (attribute r) 1 e in
+          let none : attribute r ≡ 0 = below-one other in
+          rw e (omega (arith, none))
+        where
+          below-one : (attribute r ≡ 1 → ⊥) → attribute r ≡ 0
+          below-one other = omega (arith, its-attribute)
 
 -- bytes 2 and 3, which are loaded as one number: the deallocate attribute or bit, and a byte that is unnamed
 module _ (r : List ℕ) (sixteen : length r ≡ 16) where

@@ -13,14 +13,13 @@ use Rattle.monitor.specs.declared.passing.Passed.{Passed}
 use Rattle.monitor.specs.declared.record.Monitor.{Monitor}
 use Rattle.monitor.specs.declared.tally.Active.{Active}
 use Rattle.monitor.specs.declared.tally.Stamped.{Stamped}
-use Rattle.monitor.specs.Counting.{onceMore}
 use Rattle.monitor.specs.History.{Call, settings, completion, elapsed, clock, powerUp, page, settingsBack, belowA}
 use Rattle.monitor.specs.History.{playFrom, found}
 use Rattle.monitor.specs.Passing.{standing, passedBy, clockedBy, timeBy, withTime}
-use Rattle.monitor.specs.Tally.{codeOf, KindPlaces, reachedBelow, countPlace, counterAtPlace, boundFor, boundAt, Bounds}
-use Rattle.monitor.specs.Tally.{stampedBy, withActive}
+use Rattle.monitor.specs.Tally.{codeOf, KindPlaces, reachedBelow, countPlace, AtMost, counterAtPlace, boundFor, boundAt}
+use Rattle.monitor.specs.Tally.{Bounds, stampedBy, withActive}
 use Rattle.monitor.proofs.Counts.{withCounts, counted-alone, stampedIn, stamped-alone, stamped-bounds}
-use Rattle.monitor.proofs.Counts.{kind-place-few, reached-few}
+use Rattle.monitor.proofs.Counts.{at-most-set, kind-place-few, reached-few}
 use Rattle.events.specs.Records.{callOf, recordRefusal, afterRecord, timedBy, recordAt, wholeRecords, NoneRefused}
 use Rattle.events.proofs.records.Laws.{completion-accepted, timed-alone}
 use Rattle.events.proofs.files.Laws.{Replayed, one-more}
@@ -41,6 +40,7 @@ pub record Stretched
     pub places : KindPlaces (monitor .settings .enabled) kinds
     pub bound : Bounds (withActive monitor a) (a .bounds)
     pub sizes : (length (a .bounds) ≡ 28) × (length (a .stamps) ≡ 12) × (length (a .latencies) ≡ 12)
+    pub room : AtMost (4294967295 + i) (a .counts)
     pub accepted : NoneRefused s i
     pub played : Replayed m s (withActive monitor a) i
 
@@ -93,13 +93,14 @@ module _
           places = at .places;
           bound = at .bound;
           sizes = at .sizes;
+          room = at .room;
           accepted = at .accepted;
           played = at .played;
         }
 
     -- what a kind adds to a place
-    pub added : (c : Command) (code : ℕ) → code ≡ codeOf c → getD kinds code 0 ≤ 15
-    added c code e = rw (e, at .places c) (kind-place-few (monitor .settings .enabled) c)
+    pub added : (c : Command) (code : ℕ) → (code ≡ codeOf c) × (code < 512) → getD kinds code 0 ≤ 15
+    added c code e = rw (e .0, at .places c (rw (e .0) at (e .1))) (kind-place-few (monitor .settings .enabled) c)
 
     pub few-reached : (us reached : ℕ) → reached ≡ reachedBelow thresholds us 4 → reached ≤ 4
     few-reached us reached e = omega (arith, reached-few thresholds us 4)
@@ -107,10 +108,11 @@ module _
     -- the place of a completion's count
     in-place :
         (c : Command) (code reached : ℕ) →
-        code ≡ codeOf c →
+        (code ≡ codeOf c) × (code < 512) →
         reached ≡ reachedBelow thresholds (c .latency) 4 →
         3 * reached + getD kinds code 0 ≡ countPlace (monitor .settings) c
-    in-place c code reached code-is reached-is = rw (← at .places c, ← at .in-force, ← reached-is, code-is)
+    in-place c code reached code-is reached-is =
+        rw (← at .places c (rw (code-is .0) at (code-is .1)), ← at .in-force, ← reached-is, code-is .0)
 
     module _ (r : List ℕ) (here : r ≡ recordAt s i) (more : i < end) where
       next :
@@ -119,10 +121,11 @@ module _
           KindPlaces (monitor' .settings .enabled) kinds →
           Bounds (withActive monitor' a') (a' .bounds) →
           (length (a' .bounds) ≡ 28) × (length (a' .stamps) ≡ 12) × (length (a' .latencies) ≡ 12) →
+          AtMost (4294967295 + (i + 1)) (a' .counts) →
           recordRefusal r ≡ none →
           withActive monitor' a' ≡ afterRecord (withActive monitor a) r →
           Stretched m s thresholds kinds a' monitor' end (i + 1)
-      next a' monitor' in-force places bound sizes none-refused same =
+      next a' monitor' in-force places bound sizes room none-refused same =
           record {
             before = omega arith;
             within = at .within;
@@ -130,6 +133,7 @@ module _
             places = places;
             bound = bound;
             sizes = sizes;
+            room = room;
             accepted = accepted-more s i (at .accepted) (rw here at none-refused);
             played = one-more m s _ _ i r (at .played) here same (omega (arith, more, at .within));
           }
@@ -139,11 +143,14 @@ module _
           (c : Command)
           (call : callOf r ≡ some (completion c))
           (code reached place count : ℕ)
-          (code-is : code ≡ codeOf c)
+          (code-is : (code ≡ codeOf c) × (code < 512))
           (reached-is : reached ≡ reachedBelow thresholds (c .latency) 4)
           (place-is : place ≡ 3 * reached + getD kinds code 0)
-          (count-is : count ≡ onceMore (getD (a .counts) place 0))
+          (count-is : count ≡ getD (a .counts) place 0 + 1)
         where
+          more-room : AtMost (4294967295 + (i + 1)) (set (a .counts) place count)
+          more-room = at-most-set (a .counts) place count (at .room) (omega arith) (omega (arith, at .room place))
+
           counts-there : place ≡ countPlace (monitor .settings) c
           counts-there = place-is ∙ in-place c code reached code-is reached-is
 
@@ -153,7 +160,7 @@ module _
               Stretched m s thresholds kinds (withCounts a (set (a .counts) place count)) monitor end (i + 1)
           unfolding afterRecord playFrom boundAt boundFor
           one-counted below =
-              next _ monitor (at .in-force) (at .places) (at .bound) (at .sizes) (completion-accepted r c call)
+              next _ monitor (at .in-force) (at .places) (at .bound) (at .sizes) more-room (completion-accepted r c call)
               (rw (call, count-is)
               (counted-alone monitor a c place counts-there (λ (h : place < 15). rw (at .bound place h) at below)))
 
@@ -176,6 +183,7 @@ module _
                 length-set (a .stamps) n (l .stamp) ∙ at .sizes .1,
                 length-set (a .latencies) n (l .latency) ∙ at .sizes .2,
               )
+              more-room
               (completion-accepted r c call)
               (rw (call, count-is) (stamped-alone monitor a c place n l counts-there n-is l-is alone))
 
@@ -189,4 +197,5 @@ module _
       time-went-on p e alone =
           let same = e ∙ same-time monitor a r in
           let rule = timed-alone (withActive monitor a) r (rw same at alone) in
-          next a (withTime monitor p) (at .in-force) (at .places) (at .bound) (at .sizes) (rule .1) (rw same (rule .0))
+          next a (withTime monitor p) (at .in-force) (at .places) (at .bound) (at .sizes)
+          (λ place. omega (arith, at .room place)) (rule .1) (rw same (rule .0))

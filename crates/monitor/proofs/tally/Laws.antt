@@ -1,20 +1,23 @@
 -- Laws of tables that are filled place by place, of codes, and of the parts of the counts.
-use mathlib.Core.Path.{_≡_, refl, sym, _∙_}
+use mathlib.Core.Path.{_≡_, refl, sym, ap, _∙_}
 use mathlib.Core.Bool.{Bool, true, false, cond, not, _&&_, true≢false}
 use mathlib.Core.List.{List, [], _∷_}
-use Prim.Native.Nat.{ℕ, _+_, _-_, _%_, _≤_, _<_, min}
+use mathlib.Core.Option.{none}
+use Prim.Native.Nat.{ℕ, zero, suc, _+_, _-_, _*_, _/_, _%_, _≤_, _<_}
 use native.Mathlib.Nat.{add-zero}
 use native.Mathlib.Omega.{arith}
-use borrow.Author.Tests.{eqb-true, eqb-false, ne-eqb, ltb-true, ltb-false, le-leb, lt-leb}
-use lib.Dec.{eqb, leb, ltb}
+use borrow.Author.Tests.{eqb-true, eqb-false, eq-eqb, ne-eqb, ltb-true, ltb-false}
+use lib.Dec.{eqb, ltb}
 use lib.ListN.{length, getD, set, take, drop, replicate, length-take, length-drop, getD-replicate}
+use lib.ListN.{List·getD-map}
 use lib.Seq.{getD-set-same, getD-set-other, getD-take, getD-drop, ext-getD}
 use Rattle.monitor.specs.declared.commands.Command.{Command}
 use Rattle.monitor.specs.Commands.{kindOf}
+use Rattle.monitor.specs.Counting.{held}
 use Rattle.monitor.specs.declared.record.Monitor.{Monitor}
 use Rattle.monitor.specs.Refusals.{unordered}
 use Rattle.monitor.specs.Record.{triggersAt}
-use Rattle.monitor.specs.Tally.{codeOf, kindPlace, counterBound, boundAt, Bounds, atMostLoads}
+use Rattle.monitor.specs.Tally.{codeOf, kindPlace, heldAll, counterBound, boundAt, Bounds, atMostLoads}
 
 -- a table whose places hold f, as many as i, from a first place on
 module _ (f : ℕ → ℕ) (at : ℕ) where
@@ -35,42 +38,49 @@ module _ (f : ℕ → ℕ) (at : ℕ) where
 
 -- a command of each code
 abbrev pub commandAt : ℕ → Command
-commandAt code = record { opcode = code % 16; deallocate = leb 16 code; latency = 0 }
+commandAt code = record { opcode = code / 2; deallocate = eqb (code % 2) 1; latency = 0 }
 
 -- the code decides on the kind
 same-kind : (c : Command) → kindOf (commandAt (codeOf c)) ≡ kindOf c
 unfolding kindOf
-same-kind c = rw (opcode (c .deallocate), attribute (c .deallocate)) (by (ltb (c .opcode) 15) refl)
+same-kind c = rw (opcode (c .deallocate), attribute (c .deallocate))
   where
-    opcode : (d : Bool) → (min (c .opcode) 15 + cond d 16 0) % 16 ≡ min (c .opcode) 15
+    opcode : (d : Bool) → (2 * c .opcode + cond d 1 0) / 2 ≡ c .opcode
     opcode true = omega arith
     opcode false = omega arith
 
-    attribute : (d : Bool) → leb 16 (min (c .opcode) 15 + cond d 16 0) ≡ d
-    attribute true = le-leb 16 (min (c .opcode) 15 + 16) (omega arith)
-    attribute false = lt-leb 16 (min (c .opcode) 15 + 0) (omega arith)
+    attribute : (d : Bool) → eqb ((2 * c .opcode + cond d 1 0) % 2) 1 ≡ d
+    attribute true = eq-eqb ((2 * c .opcode + 1) % 2) 1 (omega arith)
+    attribute false = ne-eqb ((2 * c .opcode + 0) % 2) 1 (λ e. omega arith)
 
-    by :
-        (t : Bool) →
-        ltb (c .opcode) 15 ≡ t →
-        kindOf (record { opcode = min (c .opcode) 15; deallocate = c .deallocate; latency = 0 }) ≡ kindOf c
-    by true h =
-        let same : min (c .opcode) 15 ≡ c .opcode = omega (arith, ltb-true (c .opcode) 15 h) in
-        rw same
-    by false h =
-        let from = ltb-false (c .opcode) 15 h in
-        let one : min (c .opcode) 15 ≡ 15 = omega (arith, from) in
-        rw (
-          one,
-          ne-eqb (c .opcode) 2 (λ e. omega (arith, from)),
-          ne-eqb (c .opcode) 1 (λ e. omega (arith, from)),
-          ne-eqb (c .opcode) 9 (λ e. omega (arith, from)),
-          ne-eqb (c .opcode) 8 (λ e. omega (arith, from)),
-        )
+-- and those from 32 on have none
+pub no-kind : (c : Command) → 32 ≤ codeOf c → kindOf c ≡ none
+unfolding kindOf
+no-kind c h =
+    let high = from (c .deallocate) h in
+    rw (
+      ne-eqb (c .opcode) 2 (λ e. omega (arith, high)),
+      ne-eqb (c .opcode) 1 (λ e. omega (arith, high)),
+      ne-eqb (c .opcode) 9 (λ e. omega (arith, high)),
+      ne-eqb (c .opcode) 8 (λ e. omega (arith, high)),
+    )
+  where
+    from : (d : Bool) → 32 ≤ 2 * c .opcode + cond d 1 0 → 16 ≤ c .opcode
+    from true h = omega arith
+    from false h = omega arith
 
 pub same-place : (enabled : Bool) (c : Command) → kindPlace enabled (commandAt (codeOf c)) ≡ kindPlace enabled c
 unfolding kindPlace
 same-place enabled c = rw (same-kind c)
+
+-- a place of the counts as the record holds them
+pub held-at : (counts : List ℕ) (place : ℕ) → getD (heldAll counts) place 0 ≡ held (getD counts place 0)
+held-at counts place = List·getD-map held counts place 0
+
+pub held-set : (counts : List ℕ) (place v : ℕ) → heldAll (set counts place v) ≡ set (heldAll counts) place (held v)
+held-set [] place v = refl
+held-set (x ∷ xs) zero v = refl
+held-set (x ∷ xs) (suc place) v = ap (λ (zs : List ℕ). held x ∷ zs) (held-set xs place v)
 
 -- the twelve counters and the three counts below threshold A, by place
 pub the-counters :

@@ -6,7 +6,8 @@ use lib.ListN.{getD}
 use native.Mathlib.Omega.{arith}
 use Rattle.monitor.specs.History.{completion, playFrom}
 use Rattle.events.specs.Records.{callOf, recordAt, callsBefore}
-use Rattle.monitor.proofs.Counts.{few-codes, few-counters}
+use Rattle.monitor.specs.Tally.{codeOf}
+use Rattle.monitor.proofs.Counts.{few-counters}
 use Rattle.events.proofs.records.Laws.{completion-call}
 use Rattle.events.proofs.files.Laws.{the-record, sixteen}
 use Rattle.events.proofs.stretch.Laws.{Stretched, stretch-ends, added, few-reached, one-counted, one-stamped}
@@ -35,13 +36,15 @@ loop-holds c =
       within = search needs;
       in-force = refl;
       places = c .before .kind-places .ensures;
-      bound = λ place h. rw (c .active .ensures .0) (c .active .ensures .1 place h);
+      bound = λ place h. rw (c .active .ensures .0) (c .active .ensures .1 .0 place h);
       sizes = (search needs, search needs, search needs);
+      room = λ place. omega (arith, c .active .ensures .1 .1 place);
       accepted = λ j h. absurd (omega arith);
       played = (search needs, c .active .ensures .0);
     }
 
-one-more-fits : (c : tie.In-loop Inv-loop μ-loop) → c .before .loop .i + 1 < 18446744073709551616
+-- a record more, and a count more, fit
+one-more-fits : (c : tie.In-loop Inv-loop μ-loop) → 4294967295 + c .before .loop .i + 1 < 18446744073709551616
 one-more-fits c = search needs
 
 mul-from : tie.Need-mul-from Inv-loop μ-loop
@@ -81,15 +84,26 @@ mul-place c =
     )
 
 code-requires : tie.Need-code-requires Inv-loop μ-loop
-code-requires c κs = search needs
+code-requires c κs =
+    let test = c .before .before .before .before .before in
+    let l = test .before .loop in (
+      sixteen _ (l .i) (omega (arith, test .loop-test .taken, l .inv .within)),
+      sym (c .before .before .before .is-completion .ensures) ∙ c .before .before .if1 .taken,
+    )
+
+-- the code is that of the record's command
+its-code :
+    (c : tie.After-code Inv-loop μ-loop) →
+    (c .code .result ≡ codeOf (c .before .before .command .result)) × (c .code .result < 512)
+its-code c = (rw (c .before .before .command .ensures) (c .code .ensures .0), c .code .ensures .1)
 
 array-read-place : tie.Need-array-read-place Inv-loop μ-loop
-array-read-place c = omega (arith, c .code .ensures, few-codes (c .before .before .command .result))
+array-read-place c = omega (arith, c .code .ensures .1)
 
 cast-place : tie.Need-cast-place Inv-loop μ-loop
 cast-place c =
     let at = c .before .before .before .before .before .before .before .loop .inv in
-    omega (arith, added at (c .before .before .command .result) _ (c .code .ensures))
+    omega (arith, added at (c .before .before .command .result) _ (its-code c))
 
 -- the call of the record
 its-call :
@@ -115,7 +129,7 @@ in-table c =
     let at = c .before .before .before .before .before .before .before .loop .inv in
     omega (
       arith,
-      added at (c .before .before .command .result) _ (c .code .ensures),
+      added at (c .before .before .command .result) _ (its-code c),
       few-reached at _ _ (c .before .reached .ensures),
     )
 
@@ -128,20 +142,28 @@ mul-if2 c = omega (arith, in-table c)
 element-copy-out-if2 : tie.Need-element-copy-out-if2 Inv-loop μ-loop
 element-copy-out-if2 c = omega (arith, in-table c)
 
-mul-once-more : tie.Need-mul-once-more Inv-loop μ-loop
-mul-once-more c = omega (arith, in-table (c .before .before .before))
-
-element-copy-out-once-more : tie.Need-element-copy-out-once-more Inv-loop μ-loop
-element-copy-out-once-more c = omega (arith, in-table (c .before .before .before))
-
-once-more-requires : tie.Need-once-more-requires Inv-loop μ-loop
-once-more-requires c κs = search needs
+-- one more there
+another :
+    (c : tie.After-code Inv-loop μ-loop) →
+    let l = c .before .before .before .before .before .before .before in
+    let place = 3 * c .before .reached .result + getD (l .before .before .kind-places .result) (c .code .result) 0 in
+    getD (l .loop .a .counts) place 0 + 1 < 18446744073709551616
+another c =
+    let l = c .before .before .before .before .before .before .before in
+    let place = 3 * c .before .reached .result + getD (l .before .before .kind-places .result) (c .code .result) 0 in
+    omega (arith, l .loop .inv .room place, one-more-fits (c .before .before .before .before .before .before))
 
 mul-a : tie.Need-mul-a Inv-loop μ-loop
-mul-a c = omega (arith, in-table (c .before .before .before .before .before))
+mul-a c = omega (arith, in-table (c .before .before .before))
+
+element-copy-out-a : tie.Need-element-copy-out-a Inv-loop μ-loop
+element-copy-out-a c = omega (arith, in-table (c .before .before .before))
+
+add-a : tie.Need-add-a Inv-loop μ-loop
+add-a c = omega (arith, another (c .before .before .before .before))
 
 element-write-a : tie.Need-element-write-a Inv-loop μ-loop
-element-write-a c = omega (arith, in-table (c .before .before .before .before .before))
+element-write-a c = omega (arith, in-table (c .before .before .before .before))
 
 add-i : tie.Need-add-i Inv-loop μ-loop
 add-i c = search needs
@@ -151,14 +173,13 @@ loop-less c = search needs
 
 loop-again : tie.Need-loop-again Inv-loop μ-loop
 loop-again c =
-    let t = c .before .before .before .before .before in
+    let t = c .before .before .before .before in
     let test = t .before .before .before .before .before .before in
     let l = test .before .loop in
-    one-counted (l .inv) _ refl (test .loop-test .taken) _ (its-call t) _ _ _ _ (t .code .ensures)
-    (t .before .reached .ensures)
+    one-counted (l .inv) _ refl (test .loop-test .taken) _ (its-call t) _ _ _ _ (its-code t) (t .before .reached .ensures)
     refl
-    (c .once-more .ensures)
-    (omega (arith, c .before .before .if2 .taken))
+    refl
+    (omega (arith, c .before .if2 .taken))
 
 counter-at-requires : tie.Need-counter-at-requires Inv-loop μ-loop
 counter-at-requires c κs = search needs
@@ -195,69 +216,65 @@ element-copy-out-stamped-4 c = omega (arith, a-counter (c .before .before .befor
 stamped-requires : tie.Need-stamped-requires Inv-loop μ-loop
 stamped-requires c κs = search needs
 
-mul-once-more-2 : tie.Need-mul-once-more-2 Inv-loop μ-loop
-mul-once-more-2 c = omega (arith, in-table (c .before .before .before .before .before .before .before .before .before .before))
-
-element-copy-out-once-more-2 : tie.Need-element-copy-out-once-more-2 Inv-loop μ-loop
-element-copy-out-once-more-2 c = omega (arith, in-table (c .before .before .before .before .before .before .before .before .before .before))
-
-once-more-requires-2 : tie.Need-once-more-requires-2 Inv-loop μ-loop
-once-more-requires-2 c κs = search needs
-
 mul-a-2 : tie.Need-mul-a-2 Inv-loop μ-loop
-mul-a-2 c = omega (arith, in-table (c .before .before .before .before .before .before .before .before .before .before .before .before))
+mul-a-2 c = omega (arith, in-table (c .before .before .before .before .before .before .before .before .before .before))
+
+element-copy-out-a-2 : tie.Need-element-copy-out-a-2 Inv-loop μ-loop
+element-copy-out-a-2 c = omega (arith, in-table (c .before .before .before .before .before .before .before .before .before .before))
+
+add-a-2 : tie.Need-add-a-2 Inv-loop μ-loop
+add-a-2 c = omega (arith, another (c .before .before .before .before .before .before .before .before .before .before .before))
 
 element-write-a-2 : tie.Need-element-write-a-2 Inv-loop μ-loop
-element-write-a-2 c = omega (arith, in-table (c .before .before .before .before .before .before .before .before .before .before .before .before))
+element-write-a-2 c = omega (arith, in-table (c .before .before .before .before .before .before .before .before .before .before .before))
 
 mul-a-3 : tie.Need-mul-a-3 Inv-loop μ-loop
-mul-a-3 c = omega (arith, in-table (c .before .before .before .before .before .before .before .before .before .before .before .before))
+mul-a-3 c = omega (arith, in-table (c .before .before .before .before .before .before .before .before .before .before .before))
 
 element-write-a-3 : tie.Need-element-write-a-3 Inv-loop μ-loop
-element-write-a-3 c = omega (arith, in-table (c .before .before .before .before .before .before .before .before .before .before .before .before))
+element-write-a-3 c = omega (arith, in-table (c .before .before .before .before .before .before .before .before .before .before .before))
 
 mul-a-4 : tie.Need-mul-a-4 Inv-loop μ-loop
-mul-a-4 c = omega (arith, a-counter (c .before .before .before .before .before .before .before .before))
+mul-a-4 c = omega (arith, a-counter (c .before .before .before .before .before .before .before))
 
 element-write-a-4 : tie.Need-element-write-a-4 Inv-loop μ-loop
-element-write-a-4 c = omega (arith, a-counter (c .before .before .before .before .before .before .before .before))
+element-write-a-4 c = omega (arith, a-counter (c .before .before .before .before .before .before .before))
 
 mul-a-5 : tie.Need-mul-a-5 Inv-loop μ-loop
-mul-a-5 c = omega (arith, a-counter (c .before .before .before .before .before .before .before .before))
+mul-a-5 c = omega (arith, a-counter (c .before .before .before .before .before .before .before))
 
 element-write-a-5 : tie.Need-element-write-a-5 Inv-loop μ-loop
-element-write-a-5 c = omega (arith, a-counter (c .before .before .before .before .before .before .before .before))
+element-write-a-5 c = omega (arith, a-counter (c .before .before .before .before .before .before .before))
 
 element-write-a-6 : tie.Need-element-write-a-6 Inv-loop μ-loop
-element-write-a-6 c = omega (arith, a-counter (c .before .before .before .before .before .before .before .before))
+element-write-a-6 c = omega (arith, a-counter (c .before .before .before .before .before .before .before))
 
 mul-a-6 : tie.Need-mul-a-6 Inv-loop μ-loop
-mul-a-6 c = omega (arith, a-counter (c .before .before .before .before .before .before .before .before))
+mul-a-6 c = omega (arith, a-counter (c .before .before .before .before .before .before .before))
 
 element-write-a-7 : tie.Need-element-write-a-7 Inv-loop μ-loop
-element-write-a-7 c = omega (arith, a-counter (c .before .before .before .before .before .before .before .before))
+element-write-a-7 c = omega (arith, a-counter (c .before .before .before .before .before .before .before))
 
 add-i-2 : tie.Need-add-i-2 Inv-loop μ-loop
-add-i-2 c = omega (arith, one-more-fits (c .before .before .before .before .before .before .before .before .before .before .before .before .before .before .before .before .before .before))
+add-i-2 c = omega (arith, one-more-fits (c .before .before .before .before .before .before .before .before .before .before .before .before .before .before .before .before .before))
 
 loop-less-2 : tie.Need-loop-less-2 Inv-loop μ-loop
 loop-less-2 c = search needs
 
 loop-again-2 : tie.Need-loop-again-2 Inv-loop μ-loop
 loop-again-2 c =
-    let looked = c .before .before .before .before .before .before .before .before in
+    let looked = c .before .before .before .before .before .before .before in
     let t = looked .before .before .before .before in
     let test = t .before .before .before .before .before .before in
     let l = test .before .loop in
-    one-stamped (l .inv) _ refl (test .loop-test .taken) _ (its-call t) _ _ _ _ (t .code .ensures)
-    (t .before .reached .ensures)
+    one-stamped (l .inv) _ refl (test .loop-test .taken) _ (its-call t) _ _ _ _ (its-code t) (t .before .reached .ensures)
     refl
-    (c .once-more2 .ensures)
+    refl
     _
     _
     (looked .counter-at .ensures)
-    (c .before .before .before .stamped .ensures)
-    (c .before .before .if3 .taken)
+    (c .before .before .stamped .ensures)
+    (c .before .if3 .taken)
 
 loop-less-3 : tie.Need-loop-less-3 Inv-loop μ-loop
 loop-less-3 c = search needs
@@ -326,10 +343,9 @@ stretch-spec =
     add-place
     mul-if2
     element-copy-out-if2
-    mul-once-more
-    element-copy-out-once-more
-    once-more-requires
     mul-a
+    element-copy-out-a
+    add-a
     element-write-a
     add-i
     loop-less
@@ -343,10 +359,9 @@ stretch-spec =
     mul-stamped-3
     element-copy-out-stamped-4
     stamped-requires
-    mul-once-more-2
-    element-copy-out-once-more-2
-    once-more-requires-2
     mul-a-2
+    element-copy-out-a-2
+    add-a-2
     element-write-a-2
     mul-a-3
     element-write-a-3

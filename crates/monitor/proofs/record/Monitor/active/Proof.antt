@@ -12,7 +12,8 @@ bounds-requires c κs = search needs
 returns : tie.Need-returns
 returns c =
     let b = c .before .before .before .before in
-    (rw (b .before .joined .ensures .0, b .before .joined .ensures .1), b .bounds .ensures)
+    let joined = b .before .joined .ensures in
+    (rw (joined .0, joined .1 .0), (b .bounds .ensures, joined .1 .1))
 
 pub active-spec : {M : Type 1} → statement M
 active-spec = tie.close (tie.spec joined-requires bounds-requires returns)
