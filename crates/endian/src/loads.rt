@@ -1,6 +1,5 @@
 // Loads: the number that bytes make, the lowest byte first.
 ghost use mathlib.Core.Path.{_≡_};
-ghost use Prim.Native.Nat.{min};
 ghost use lib.ListN.{take};
 ghost use lib.Seq.{sets};
 ghost use Rattle.endian.specs.Loads.{number, valuesAt};

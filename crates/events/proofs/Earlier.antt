@@ -10,11 +10,12 @@ use lib.Dec.{eqb, leb}
 use lib.ListN.{length}
 use lib.Seq.{drop-cons}
 use Rattle.endian.specs.Bytes.{anySet}
-use Rattle.monitor.specs.Claims.{WithoutAttribute}
-use Rattle.monitor.specs.History.{Call, settings, completion, elapsed, clock, powerUp, History, asked, attributeIn, andThen}
+use Rattle.monitor.specs.Calls.{Call, settings, completion, elapsed, clock, powerUp, History, andThen, attributeIn}
+use Rattle.monitor.specs.Calls.{WithoutAttribute}
 use Rattle.events.specs.Claims.{EarlierCompletions, EarlierFiles}
 use Rattle.events.specs.Records.{recordKind, attribute, unnamed, settingsBytes, commandOf, completionOf, elapsedOf}
-use Rattle.events.specs.Records.{clockOf, callOfKind, callOf, recordAt, wholeRecords, callsBefore, historyOf}
+use Rattle.events.specs.Records.{clockOf, callOfKind, callOf}
+use Rattle.events.specs.Files.{recordAt, wholeRecords, callsBefore, historyOf}
 use Rattle.events.proofs.records.Laws.{known-call}
 
 -- a byte and those behind it are clear
@@ -37,13 +38,13 @@ earlier-completions r sixteen kind none-set =
 -- a record's call, if there is one, has no attribute
 data Without : Option Call → Type 0 where
   no-call : Without none
-  without : {call : Call} → attributeIn (asked call) ≡ false → Without (some call)
+  without : {call : Call} → attributeIn call ≡ false → Without (some call)
 
 either : (t : Bool) {x y : Option Call} → (t ≡ true → Without x) → Without y → Without (cond t x y)
 either true p q = p refl
 either false p q = q
 
-if-clear : (bytes : List ℕ) (call : Call) → attributeIn (asked call) ≡ false → Without (cond (anySet bytes) none (some call))
+if-clear : (bytes : List ℕ) (call : Call) → attributeIn call ≡ false → Without (cond (anySet bytes) none (some call))
 if-clear bytes call p = either (anySet bytes) (λ _. no-call) (without p)
 
 without-call : (r : List ℕ) → (recordKind r ≡ 2 → attribute r ≡ 0) → Without (callOf r)

@@ -10,13 +10,13 @@ use lib.Dec.{ltb}
 use lib.ListN.{length, take, length-append, length-take}
 use lib.Seq.{take-all, take-append-le, take-append-add}
 use Rattle.monitor.specs.declared.record.Monitor.{Monitor}
-use Rattle.monitor.specs.History.{found, andThen, orElse, playFrom}
+use Rattle.monitor.specs.Calls.{found, andThen, orElse, playFrom}
 use Rattle.events.specs.declared.explain.Question.{Question}
 use Rattle.events.specs.Claims.{InParts, joined, OfWholeRecords, ExplainedInParts, RefusedSkipped}
 use Rattle.events.specs.Explain.{Said, bytesBefore, saidAt, atEnd, numberSaid, inputSaid, questionOf}
 use Rattle.events.specs.Explain.{afterPart, partSaid, partsSaid}
-use Rattle.events.specs.Records.{callOf, recordRefusal, acceptedCall, recordAt, wholeRecords, callsBefore}
-use Rattle.events.specs.Records.{acceptedBefore, historyOf, afterRecord}
+use Rattle.events.specs.Records.{callOf, recordRefusal, acceptedCall, afterRecord}
+use Rattle.events.specs.Files.{recordAt, wholeRecords, callsBefore, acceptedBefore, historyOf}
 use Rattle.events.proofs.Parts.{in-parts, same-record, later-record}
 use Rattle.events.proofs.files.Laws.{untouched, then-one, then-same}
 

@@ -5,7 +5,7 @@ use Prim.Native.Nat.{ℕ, zero, suc, _+_, _*_, _≤_}
 use native.Mathlib.Omega.{arith}
 use lib.ListN.{length, drop, length-append, length-drop}
 use lib.Seq.{drop-at, drop-append-le, take-append-le}
-use Rattle.events.specs.Records.{recordAt, wholeRecords, callsBefore, historyOf}
+use Rattle.events.specs.Files.{recordAt, wholeRecords, callsBefore, historyOf}
 use Rattle.events.specs.Blocks.{recordLine, linesFrom, refusedLines}
 use Rattle.events.specs.Claims.{InParts, LinesInParts}
 use Rattle.events.proofs.files.Laws.{composed, rest-record}

@@ -4,11 +4,12 @@ use mathlib.Core.Path.{_≡_}
 use Prim.Native.Nat.{ℕ, zero, suc, _+_, _*_, _/_, _%_, _^_}
 use lib.ListN.{length, take}
 use Rattle.monitor.specs.declared.record.Monitor.{Monitor}
-use Rattle.monitor.specs.History.{found, playFrom}
+use Rattle.monitor.specs.Calls.{found, playFrom}
 use Rattle.text.specs.Lines.{refusedLine}
 use Rattle.text.specs.Stored.{Stored}
 use Rattle.events.specs.declared.blocks.Block.{Block}
-use Rattle.events.specs.Records.{recordAt, wholeRecords, historyOf, recordRefusal, endRefusal}
+use Rattle.events.specs.Records.{recordRefusal}
+use Rattle.events.specs.Files.{recordAt, wholeRecords, historyOf, endRefusal}
 
 -- the line of record i, if it is refused: its number, and the refusal. The bytes' first record has the number `first`;
 -- numbers have 64 bits, more than any file needs.

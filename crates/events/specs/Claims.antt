@@ -9,12 +9,11 @@ use lib.ListN.{length, getD, take, drop}
 use Rattle.endian.specs.Bytes.{anySet}
 use Rattle.endian.specs.Loads.{number}
 use Rattle.monitor.specs.declared.record.Monitor.{Monitor}
-use Rattle.monitor.specs.Claims.{WithoutAttribute}
-use Rattle.monitor.specs.History.{completion, playFrom, found}
+use Rattle.monitor.specs.Calls.{WithoutAttribute, completion, playFrom, found}
 use Rattle.events.specs.Blocks.{refusedLines}
 use Rattle.events.specs.Explain.{numberSaid, inputSaid, questionOf, partsSaid}
-use Rattle.events.specs.Records.{recordKind, part, unnamed, attribute, callOf, recordAt}
-use Rattle.events.specs.Records.{wholeRecords, callsBefore, acceptedBefore, historyOf}
+use Rattle.events.specs.Records.{recordKind, part, unnamed, attribute, callOf}
+use Rattle.events.specs.Files.{recordAt, wholeRecords, callsBefore, acceptedBefore, historyOf}
 
 -- what follows is played on the monitor that the first part leaves
 unfoldable pub InParts : Type 0

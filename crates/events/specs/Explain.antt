@@ -6,16 +6,17 @@ use Prim.Native.Nat.{ℕ, _-_, _*_}
 use lib.Dec.{ltb}
 use lib.ListN.{length, take, drop}
 use Rattle.endian.specs.Loads.{number}
-use Rattle.monitor.specs.declared.commands.Command.{Command}
+use Rattle.rules.specs.declared.commands.Command.{Command}
 use Rattle.monitor.specs.declared.record.Monitor.{Monitor}
-use Rattle.monitor.specs.History.{Call, asked, completionIn, found, onlyIf, playFrom}
+use Rattle.monitor.specs.Calls.{Call, found, onlyIf, playFrom, commandIn}
 use Rattle.monitor.specs.Reasons.{reasonOf}
 use Rattle.monitor.specs.Record.{newMonitor}
 use Rattle.text.specs.Lines.{numberLine, refusedLine}
-use Rattle.events.specs.declared.explain.Explained.{Explained}
-use Rattle.events.specs.declared.explain.Explained.the-variants as explained
+use Rattle.events.specs.declared.answers.Explained.{Explained}
+use Rattle.events.specs.declared.answers.Explained.the-variants as explained
 use Rattle.events.specs.declared.explain.Question.{Question}
-use Rattle.events.specs.Records.{callOf, recordAt, wholeRecords, historyOf}
+use Rattle.events.specs.Records.{callOf}
+use Rattle.events.specs.Files.{recordAt, wholeRecords, historyOf}
 
 pub data Said : Type 0 where
   -- the lowest reason that applies, or 0
@@ -29,7 +30,7 @@ notACompletion = refused 16
 
 -- the completion that a record stands for; a record that 11 turns away stands for none
 unfoldable pub completionAt : List ℕ → Option Command
-completionAt r = found none (λ (c : Call). completionIn (asked c)) (callOf r)
+completionAt r = found none (λ (c : Call). commandIn c) (callOf r)
 
 -- what is said of a record, by the monitor before it
 unfoldable pub recordSaid : Monitor → List ℕ → Said

@@ -1,4 +1,5 @@
 pub mod Records
+pub mod Files
 pub mod Blocks
 pub mod Explain
 pub mod Claims

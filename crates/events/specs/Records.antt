@@ -2,23 +2,20 @@
 use mathlib.Core.Bool.{Bool, cond, not, _&&_}
 use mathlib.Core.List.{List, [], _++_}
 use mathlib.Core.Option.{Option, none, some}
-use mathlib.Core.Path.{_≡_}
-use Prim.Native.Nat.{ℕ, zero, suc, _-_, _*_, _/_, _%_, _<_}
+use Prim.Native.Nat.{ℕ, _-_}
 use lib.Dec.{eqb, leb}
 use lib.ListN.{length, getD, take, drop, replicate}
 use Rattle.endian.specs.Bytes.{anySet}
 use Rattle.endian.specs.Loads.{number}
-use Rattle.monitor.specs.declared.commands.Command.{Command}
-use Rattle.monitor.specs.declared.passing.Passed.{Passed}
+use Rattle.rules.specs.declared.commands.Command.{Command}
+use Rattle.batch.specs.declared.parts.Passed.{Passed}
 use Rattle.monitor.specs.declared.record.Monitor.{Monitor}
-use Rattle.monitor.specs.Answers.{CallAnswer, refused, done, notCounted, counted, ended}
-use Rattle.monitor.specs.History.{Call, settings, completion, elapsed, clock, powerUp, History, playFrom, refusalOf}
-use Rattle.monitor.specs.History.{answerOf, found, andThen, orElse}
-use Rattle.monitor.specs.Passing.{standing, timeBy}
+use Rattle.rules.specs.Answers.{CallAnswer, refused, done, notCounted, counted, ended}
+use Rattle.monitor.specs.Calls.{Call, settings, completion, elapsed, clock, powerUp, playFrom, refusalOf}
+use Rattle.monitor.specs.Calls.{answerOf, found, andThen}
+use Rattle.batch.specs.Passing.{standing, timeBy}
 use Rattle.events.specs.declared.answers.RecordAnswer.{RecordAnswer}
 use Rattle.events.specs.declared.answers.RecordAnswer.the-variants as answer
-use Rattle.events.specs.declared.files.Halt.{Halt}
-use Rattle.events.specs.declared.files.Halt.the-variants as halt
 
 -- a record begins with its kind
 abbrev pub recordKind : List ℕ → ℕ
@@ -108,61 +105,3 @@ timedBy m r = found (standing m) (timeBy m) (callOf r)
 -- the call of a record that nothing turns away
 abbrev pub acceptedCall : List ℕ → Option Call
 acceptedCall r = found (callOf r) (λ refusal. none) (recordRefusal r)
-
--- record i of a file, from 0
-abbrev pub recordAt : List ℕ → ℕ → List ℕ
-recordAt s i = take 16 (drop (16 * i) s)
-
--- how many whole records a file has
-abbrev pub wholeRecords : List ℕ → ℕ
-wholeRecords s = length s / 16
-
--- the calls of a file's first n records, the newest first; a record refused by 11 stands for none
-unfoldable pub callsBefore : List ℕ → ℕ → History
-callsBefore s zero = []
-callsBefore s (suc n) = andThen (callOf (recordAt s n)) (callsBefore s n)
-
--- those of them that nothing turns away
-unfoldable pub acceptedBefore : List ℕ → ℕ → History
-acceptedBefore s zero = []
-acceptedBefore s (suc n) = andThen (acceptedCall (recordAt s n)) (acceptedBefore s n)
-
--- the calls of a file; bytes left over stand for none
-unfoldable pub historyOf : List ℕ → History
-historyOf s = callsBefore s (wholeRecords s)
-
--- a refused record: its number from 0, and the refusal
-pub record Refusal : Type 0 where
-  pub index : ℕ
-  pub number : ℕ
-
-abbrev pub refusalAt : ℕ → Option ℕ → Option Refusal
-refusalAt i none = none
-refusalAt i (some n) = some (record { index = i; number = n })
-
--- nothing turns the first n records away
-abbrev pub NoneRefused : List ℕ → ℕ → Type 0
-NoneRefused s n = (i : ℕ) → i < n → recordRefusal (recordAt s i) ≡ none
-
--- the first refused record among the n from record i on
-unfoldable pub firstRefusedFrom : List ℕ → (i n : ℕ) → Option Refusal
-firstRefusedFrom s i zero = none
-firstRefusedFrom s i (suc n) =
-    orElse (refusalAt i (recordRefusal (recordAt s i))) (firstRefusedFrom s (suc i) n)
-
--- the first refused record of a file
-unfoldable pub firstRefused : List ℕ → Option Refusal
-firstRefused s = firstRefusedFrom s 0 (wholeRecords s)
-
--- how many records stand before it, or how many there are
-unfoldable pub acceptedRecords : List ℕ → ℕ
-acceptedRecords s = found (wholeRecords s) (λ (r : Refusal). r .index) (firstRefused s)
-
--- where a run halted
-abbrev pub saysHalt : Halt → Option Refusal
-saysHalt (halt.Refused i n) = some (record { index = i; number = n })
-saysHalt halt.End = none
-
--- 01, Where a call is turned away: a file that is not of whole records
-unfoldable pub endRefusal : ℕ → Option ℕ
-endRefusal n = cond (eqb (n % 16) 0) none (some 12)

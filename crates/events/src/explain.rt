@@ -5,10 +5,11 @@ ghost use mathlib.Core.Path.{_≡_};
 ghost use mathlib.Core.Option.{some};
 ghost use Prim.Native.Nat.{_≤_};
 ghost use lib.ListN.{length};
-ghost use Rattle.monitor.specs.History.{found};
+ghost use Rattle.monitor.specs.Calls.{found};
 ghost use Rattle.text.specs.Lines.{asLine};
 ghost use Rattle.events.specs.Explain.{recordSaid, atEnd, numberSaid, saidLine, questionOf, afterPart, partSaid};
 ghost use Rattle.events.specs.Explain.{saysExplained};
+use crate::answers::Explained;
 use crate::blocks;
 use crate::files;
 use crate::records;
@@ -26,15 +27,6 @@ const NOT_A_COMPLETION: u8 = 16;
 pub struct Question {
     pub monitor: Monitor,
     pub before: u32,
-}
-
-// What is said of it. specs/Explain.antt gives the line for each case.
-pub enum Explained {
-    // The lowest reason that applies, or 0.
-    Reason(u8),
-    Refused(u8),
-    // The record has not been reached.
-    Unread,
 }
 
 // What a part of the input leaves of a question, and what is said.

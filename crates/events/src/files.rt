@@ -1,22 +1,17 @@
 // The whole records of a slice, one after the other.
 ghost use mathlib.Core.Path.{_≡_};
 ghost use mathlib.Core.Option.{some};
-ghost use Rattle.monitor.specs.Answers.{saysAnswer, unlessRefused, done};
-ghost use Rattle.monitor.specs.History.{playFrom};
-ghost use Rattle.events.specs.Records.{callsBefore, historyOf, firstRefused};
-ghost use Rattle.events.specs.Records.{acceptedRecords, refusalAt, saysHalt, endRefusal};
-use crate::answers;
+ghost use Rattle.rules.specs.Answers.{saysAnswer, unlessRefused, done};
+ghost use Rattle.monitor.specs.Calls.{playFrom};
+ghost use Rattle.events.specs.Files.{callsBefore, historyOf, firstRefused};
+ghost use Rattle.events.specs.Files.{acceptedRecords, refusalAt, saysHalt, endRefusal};
+use crate::answers::Halt;
 use crate::answers::RecordAnswer;
+use crate::apply;
 use crate::records;
 use crate::stretch;
 use monitor::Answer;
 use monitor::Monitor;
-
-// Why a run stopped: at a refused record, with its number from 0 and the refusal, or at the end.
-pub enum Halt {
-    Refused { index: usize, number: u8 },
-    End,
-}
 
 pub struct Stop {
     pub monitor: Monitor,
@@ -42,7 +37,7 @@ pub fn run(m: Monitor, s: &[u8]) -> Stop
     while i < s.len() / records::RECORD {
         let from = records::RECORD * i;
         let to = from + records::RECORD;
-        let o = answers::apply(monitor, &s[from..to]);
+        let o = apply::apply(monitor, &s[from..to]);
         let answer = o.answer;
         if let RecordAnswer::Refused(number) = answer {
             return refused_at(o.next, i, number);

@@ -1,23 +1,24 @@
 // Event files: records of 16 bytes, the calls that they stand for, and what these make of a monitor.
 mod answers;
+mod apply;
 mod blocks;
 mod explain;
 mod files;
 mod records;
 mod stretch;
 
+pub use answers::Explained;
+pub use answers::Halt;
 pub use answers::RecordAnswer;
-pub use answers::RecordOutcome;
-pub use answers::apply;
+pub use apply::RecordOutcome;
+pub use apply::apply;
 pub use blocks::Block;
 pub use blocks::end_line;
 pub use blocks::replay_block;
-pub use explain::Explained;
 pub use explain::Explanation;
 pub use explain::Question;
 pub use explain::explained_line;
 pub use explain::unread;
-pub use files::Halt;
 pub use files::Stop;
 pub use files::left_over;
 pub use files::replay;

@@ -4,17 +4,18 @@ ghost use mathlib.Core.Bool.{true, false, not};
 ghost use Prim.Native.Nat.{_+_, _≤_, _<_};
 ghost use lib.ListN.{length, replicate};
 ghost use Rattle.endian.specs.Bytes.{anySet};
-ghost use Rattle.monitor.specs.Answers.{saysAnswer, saysElapsed, refused};
+ghost use Rattle.rules.specs.Answers.{saysAnswer, saysElapsed, refused};
 ghost use Rattle.monitor.specs.Record.{afterSettings, settingsAnswer};
-ghost use Rattle.monitor.specs.Tally.{codeOf};
+ghost use Rattle.batch.specs.Tally.{codeOf};
 ghost use Rattle.events.specs.Records.{unnamed, settingsBytes, commandOf, isKind, isCompletion, isElapsed};
 ghost use Rattle.events.specs.Records.{afterRecord, timedBy, recordAnswer};
+use batch::Passed;
+use batch::passing;
 use monitor::Answer;
 use monitor::Command;
 use monitor::ElapsedOutcome;
 use monitor::Monitor;
 use monitor::Outcome;
-use monitor::Passed;
 
 // The bytes of a record.
 pub const RECORD: usize = 16;
@@ -150,13 +151,13 @@ pub(crate) fn timed(m: Monitor, r: &[u8]) -> Passed
     ensures { λ p. ⌜ p ≡ timedBy m (now (r .entry)) ⌝ }
 {
     if is_elapsed(r) {
-        m.passed(endian::load(&r[4..8]) as u32)
+        passing::passed(m, endian::load(&r[4..8]) as u32)
     } else if is_kind(r, CLOCK, 1, 4, 12) {
-        m.clocked(endian::load(&r[4..12]))
+        passing::clocked(m, endian::load(&r[4..12]))
     } else if is_kind(r, POWER_UP, 1, 8, 8) {
-        m.powered()
+        passing::powered(m)
     } else {
-        m.standing()
+        passing::standing(m)
     }
 }
 

@@ -2,9 +2,11 @@
 // Nearly all records are such. The active window is kept apart, so that the monitor is put together once a stretch.
 ghost use mathlib.Core.Path.{_≡_};
 ghost use Prim.Native.Nat.{_≤_};
-ghost use Rattle.monitor.specs.History.{playFrom};
-ghost use Rattle.events.specs.Records.{callsBefore, wholeRecords, NoneRefused};
+ghost use Rattle.monitor.specs.Calls.{playFrom};
+ghost use Rattle.events.specs.Files.{callsBefore, wholeRecords, NoneRefused};
 use crate::records;
+use batch::passing;
+use batch::tally;
 use monitor::Monitor;
 
 // The monitor after a stretch, and how many records it has.
@@ -20,8 +22,8 @@ pub(crate) fn stretch(m: Monitor, s: &[u8]) -> Played
     ensures accepted { λ r. ⌜ NoneRefused (now (s .entry)) (r .records) ⌝ }
 {
     let thresholds = m.settings.thresholds;
-    let kinds = monitor::kind_places(m.settings.enabled);
-    let mut a = m.active();
+    let kinds = tally::kind_places(m.settings.enabled);
+    let mut a = tally::active(m);
     let mut monitor = m;
     let mut end = s.len() / records::RECORD;
     let mut i = 0;
@@ -30,13 +32,14 @@ pub(crate) fn stretch(m: Monitor, s: &[u8]) -> Played
         let r = &s[from..from + records::RECORD];
         if records::is_completion(r) {
             let c = records::command(r);
-            let place = 3 * c.reached(thresholds) + kinds[records::code(r)] as usize;
+            let place = 3 * tally::reached(c, thresholds) + kinds[records::code(r)] as usize;
             if c.latency < a.bounds[place] {
                 a.counts[place] += 1;
                 i += 1;
             } else {
-                let n = monitor::counter_at(place);
-                let l = monitor.stamped(
+                let n = tally::counter_at(place);
+                let l = tally::stamped(
+                    monitor,
                     place,
                     c,
                     a.stamps[n],
@@ -59,14 +62,14 @@ pub(crate) fn stretch(m: Monitor, s: &[u8]) -> Played
         } else {
             let p = records::timed(monitor, r);
             if p.alone {
-                monitor = monitor.with_time(p);
+                monitor = passing::with_time(monitor, p);
                 i += 1;
             } else {
                 end = i;
             }
         }
     }
-    let monitor = monitor.with_active(a);
+    let monitor = tally::with_active(monitor, a);
     Played {
         monitor,
         records: i,

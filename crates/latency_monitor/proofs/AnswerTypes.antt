@@ -5,12 +5,12 @@ use mir.Syntax.{w8}
 use denote.Plain.{UInt}
 use Rattle.logpage.proofs.answers.Answer as N
 use Rattle.logpage.proofs.answers.Answer.Laws as N′
-use Rattle.monitor.proofs.answers.CompletionAnswer as CN
-use Rattle.monitor.proofs.answers.CompletionAnswer.Laws as CN′
-use Rattle.monitor.proofs.answers.ElapsedAnswer as EN
-use Rattle.monitor.proofs.answers.ElapsedAnswer.Laws as EN′
-use Rattle.monitor.proofs.commands.Command as Cmd
-use Rattle.monitor.proofs.commands.Command.Laws as Cmd′
+use Rattle.rules.proofs.answers.CompletionAnswer as CN
+use Rattle.rules.proofs.answers.CompletionAnswer.Laws as CN′
+use Rattle.rules.proofs.answers.ElapsedAnswer as EN
+use Rattle.rules.proofs.answers.ElapsedAnswer.Laws as EN′
+use Rattle.rules.proofs.commands.Command as Cmd
+use Rattle.rules.proofs.commands.Command.Laws as Cmd′
 use Rattle.monitor.proofs.record.Monitor as Mon
 use Rattle.monitor.proofs.record.Monitor.Laws as Mon′
 use Rattle.monitor.proofs.record.Outcome as O

@@ -32,7 +32,7 @@ use denote.Triple.Clauses.{Ended, Clauses, AtExit, closing}
 use denote.Triple.End.{all}
 use denote.Triple.Walked.{Stays, stay-ref, walkOf, hasOf, goes-ref, ends-at, walked}
 use denote.Exit.{yes}
-use Rattle.monitor.specs.Answers.{CallAnswer}
+use Rattle.rules.specs.Answers.{CallAnswer}
 use Rattle.latency_monitor.proofs.PlainData.{Plain, Way, Outcome}
 use Rattle.latency_monitor.proofs.Locals.{value, frees-cell, opt-local, past, opt-alloc, opt-frees}
 use Rattle.latency_monitor.proofs.Parameters.{Parameters, taken, given, stays, pass, spell, tell, values, same-own, lasts-of, fits}

@@ -40,7 +40,7 @@ use denote.Triple.Walked.{says, Stays, stay-dropped, gave-slice, walkOf, goes-dr
 use denote.Exit.{yes}
 use Rattle.monitor.specs.declared.record.Monitor.{Monitor}
 use Rattle.logpage.specs.declared.answers.Answer.{Answer}
-use Rattle.monitor.specs.Answers.{CallAnswer, saysAnswer}
+use Rattle.rules.specs.Answers.{CallAnswer, saysAnswer}
 use Rattle.logpage.proofs.answers.Answer as N
 use Rattle.monitor.proofs.record.Monitor as Mon
 use Rattle.latency_monitor.specs.Answers.{asRefusal}
@@ -50,9 +50,7 @@ use Rattle.latency_monitor.proofs.Rules.{Answers, makes-numbers}
 use Rattle.latency_monitor.proofs.Walks.{states, Loan, loan, IsRecord, shared-mir, loads, calls, loops, runs-as}
 use Rattle.latency_monitor.proofs.Walks.{framed, stands}
 
--- `Claim` is what the rule's contract says of the buffer beside that; the numbers do not need it.
-module _ (#rule #numbers : Name) (after : Monitor → List ℕ → List ℕ) (answers : List ℕ → CallAnswer)
-    (Claim : Monitor → List ℕ → List ℕ → Type 0) where
+module _ (#rule #numbers : Name) (after : Monitor → List ℕ → List ℕ) (answers : List ℕ → CallAnswer) where
   abbrev rule-ended : Ended
   rule-ended = record {
     signature = record {
@@ -112,8 +110,7 @@ module _ (#rule #numbers : Name) (after : Monitor → List ℕ → List ℕ) (an
       requires = λ _. emp 𝓤;
       ensures = λ _ r e.
           sep 𝓤 (fact 𝓤 (e .1 .0 .now ≡ after (a .0) (a .1 .0 .now)))
-          (sep 𝓤 (fact 𝓤 (saysAnswer r ≡ answers (a .1 .0 .now)))
-          (fact 𝓤 (Claim (a .0) (a .1 .0 .now) (e .1 .0 .now))));
+          (fact 𝓤 (saysAnswer r ≡ answers (a .1 .0 .now)));
     }
 
     abbrev Rule : Contract 𝓤
@@ -173,8 +170,8 @@ module _ (#rule #numbers : Name) (after : Monitor → List ℕ → List ℕ) (an
           let zs = ws .1 .0 in
           let bytes = zs ≡ after h (s .now) in
           let number = saysAnswer r ≡ answers (s .now) in
-          qed W ((‵ (Lasts zs) ⊛ raw (fact 𝓤 bytes) ⊛ raw (fact 𝓤 number) ⊛ raw (fact 𝓤 (Claim h (s .now) zs))) ∷ []) ∵
-          split3 ! $ move ! (1 ∷ []) $ heard ! bytes (λ b. move ! (1 ∷ []) $ split ! $ heard ! number (λ n. drop ! $
+          qed W ((‵ (Lasts zs) ⊛ raw (fact 𝓤 bytes) ⊛ raw (fact 𝓤 number)) ∷ []) ∵
+          split3 ! $ move ! (1 ∷ []) $ heard ! bytes (λ b. move ! (1 ∷ []) $ heard ! number (λ n.
           show ! (λ (zs : List ℕ). sep 𝓤 (sem 𝓤 H A (Lasts zs)) (fact 𝓤 (Said r zs))) zs $ says ! (b, n) $ done !)))
 
       ends : (y : ℕ) (u : Val) (zs : List ℕ) → zs ≡ after h (s .now) → y ≡ asRefusal (answers (s .now))

@@ -3,7 +3,7 @@ use mathlib.Core.Bool.{Bool, true, false}
 use mathlib.Core.List.{List}
 use Prim.Native.Nat.{ℕ}
 use lib.ListN.{getD}
-use Rattle.monitor.specs.Answers.{CallAnswer, refused, done, notCounted, counted, ended, byKind}
+use Rattle.rules.specs.Answers.{CallAnswer, refused, done, notCounted, counted, ended, byKind}
 use Rattle.latency_monitor.specs.declared.answers.PlainCompletionAnswer.{PlainCompletionAnswer}
 use Rattle.latency_monitor.specs.declared.answers.PlainElapsedAnswer.{PlainElapsedAnswer}
 use Rattle.latency_monitor.specs.declared.answers.PlainBelowA.{PlainBelowA}

@@ -2,7 +2,7 @@
 use mathlib.Core.List.{List}
 use Prim.Native.Nat.{ℕ}
 use Rattle.logpage.specs.Reader.{readRefusal}
-use Rattle.monitor.specs.Answers.{CallAnswer, done, unlessRefused}
+use Rattle.rules.specs.Answers.{CallAnswer, done, unlessRefused}
 
 unfoldable pub readAnswer : List ℕ → CallAnswer
 readAnswer page = unlessRefused (readRefusal page) done

@@ -1,8 +1,8 @@
 // What the calls answer, as C reads it: neither enums nor arrays cross the boundary.
 ghost use mathlib.Core.Path.{_≡_};
-ghost use Rattle.monitor.specs.Answers.{saysAnswer, saysCompletion, saysElapsed};
+ghost use Rattle.rules.specs.Answers.{saysAnswer, saysCompletion, saysElapsed};
 ghost use Rattle.monitor.specs.Report.{countsBelowA};
-ghost use Rattle.monitor.specs.declared.report.WindowChoice.the-variants.{Active, Static};
+ghost use Rattle.monitor.specs.declared.windows.WindowChoice.the-variants.{Active, Static};
 ghost use Rattle.latency_monitor.specs.Answers.{asRefusal, noCounter, asCompletion, asElapsed, asBelowA};
 use monitor::Answer;
 use monitor::CompletionAnswer;

@@ -1,7 +1,7 @@
 // A page read back into fields that are lent.
 ghost use mathlib.Core.Path.{_≡_};
 ghost use Rattle.logpage.specs.Reader.{readingOf};
-ghost use Rattle.monitor.specs.Answers.{saysAnswer};
+ghost use Rattle.rules.specs.Answers.{saysAnswer};
 ghost use Rattle.latency_monitor.specs.Reading.{readAnswer};
 use logpage::Answer;
 use logpage::LogPage;

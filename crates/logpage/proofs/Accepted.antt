@@ -2,7 +2,7 @@
 use mathlib.Core.Bool.{Bool, true, false, not, cond, true≢false}
 use mathlib.Core.List.{List, [], _∷_, _++_}
 use mathlib.Core.Option.{none}
-use mathlib.Core.Path.{_≡_, refl, sym, ap, _∙_}
+use mathlib.Core.Path.{_≡_, refl, sym, _∙_}
 use Prim.Native.Nat.{ℕ, _+_, _≤_}
 use native.Mathlib.Omega.{arith}
 use borrow.Author.Tests.{eqb-true, ltb-true, not-true, not-false}
@@ -10,66 +10,22 @@ use lib.Count.{ones}
 use lib.Dec.{eqb, ltb}
 use lib.ListN.{length, getD, drop, length-drop}
 use lib.Seq.{take-all, take-add, drop-drop, length-take-le}
-use Rattle.endian.specs.Bytes.{Bytes, anySet}
-use Rattle.endian.specs.Loads.{number, part, valuesAt}
+use Rattle.endian.specs.Bytes.{Bytes}
+use Rattle.endian.specs.Loads.{part, valuesAt}
 use Rattle.endian.specs.Stores.{fields, total}
-use Rattle.endian.proofs.Bytes.{none-set}
 use Rattle.endian.proofs.Layouts.{narrow, bytes-take, bytes-drop, bytes-back}
-use Rattle.endian.proofs.Numbers.{clear-zero}
-use Rattle.logpage.specs.Block.{zeros, buckets, downward, blockWidths, blockValues, blockBytes}
-use Rattle.logpage.specs.BlockReader.{windowIn, ofTwelve, clear, windowFits, blockKeeps, blockFits}
+use Rattle.window.specs.Block.{zeros, blockBytes}
+use Rattle.window.specs.BlockReader.{windowIn, ofTwelve, clear, blockKeeps}
 use Rattle.logpage.specs.Claims.{WrittenAgain, SourceOfCounter}
-use Rattle.logpage.specs.Fields.{unset, from}
+use Rattle.window.specs.Fields.{unset}
 use Rattle.logpage.specs.Page.{headWidths, headValues, headBytes, windowsBytes, tailWidths, tailValues, tailBytes}
 use Rattle.logpage.specs.Page.{identityWidths, identityValues, pageBytes}
 use Rattle.logpage.specs.Reader.{headIn, tailIn, identityIn, settingsFrom, debugFrom, fieldsIn, headFits}
 use Rattle.logpage.specs.Reader.{tailFits, debugHeld, debugCounter, debugFits, pageKeeps, pageFits, identified, readRefusal}
-use Rattle.logpage.specs.declared.Window.{Window}
 use Rattle.logpage.proofs.OneBit.{source-bit}
-use Rattle.logpage.proofs.Lists.{no-row, passed, flag-again, bits-again}
-
--- a part that is clear
-clear-part : (l : List ℕ) (at n : ℕ) → at + n ≤ length l → clear at n l ≡ true → part at n l ≡ zeros n
-clear-part l at n h e =
-    let k : length (part at n l) ≡ n = length-take-le n (drop at l) (omega (arith, length-drop at l)) in
-    none-set (part at n l) (not-true (anySet (part at n l)) e) ∙ rw k
-
-clear-number : (l : List ℕ) (at n : ℕ) → clear at n l ≡ true → number (part at n l) ≡ 0
-clear-number l at n e = clear-zero (part at n l) (not-true (anySet (part at n l)) e)
-
--- a block
-module _ (block : List ℕ) (w : Window) where
-  abbrev block-rules : List Bool
-  block-rules =
-      clear 0 4 block
-      ∷ clear 16 4 block
-      ∷ clear 32 4 block
-      ∷ clear 48 4 block
-      ∷ ofTwelve (getD (valuesAt 0 blockWidths block) 40 0)
-      ∷ windowFits w
-      ∷ []
-
-  block-rule : blockKeeps block w ≡ true → (k : ℕ) → getD block-rules k true ≡ true
-  unfolding blockKeeps
-  block-rule = passed block-rules
-
-block-again :
-    (block : List ℕ) →
-    Bytes block →
-    length block ≡ 186 →
-    blockFits block ≡ true →
-    blockBytes (windowIn block) ≡ block
-unfolding blockBytes windowIn valuesAt from buckets downward narrow total
-block-again block b n fit =
-    let r = block-rule block (windowIn block) fit in
-    let z = clear-number block in
-    let m = bits-again 12 (number (part 184 2 block)) (ltb-true _ _ (r 4)) in
-    let same : blockValues (windowIn block) ≡ valuesAt 0 blockWidths block =
-    rw (m, z 0 4 (r 0), z 16 4 (r 1), z 32 4 (r 2), z 48 4 (r 3))
-    in
-    ap (fields blockWidths) same
-    ∙ bytes-back blockWidths block 0 refl b (omega arith)
-    ∙ take-all 186 block (omega arith)
+use Rattle.logpage.proofs.Rows.{no-row}
+use Rattle.window.proofs.Lists.{passed, flag-again}
+use Rattle.window.proofs.Accepted.{clear-part, block-again}
 
 -- a part in two
 split-part : (l : List ℕ) (at n m : ℕ) → part at (n + m) l ≡ part at n l ++ part (at + n) m l
@@ -90,8 +46,8 @@ module _ (page : List ℕ) (ok : readRefusal page ≡ none) where
 
   abbrev page-rules : List Bool
   page-rules =
-      blockFits (part 32 186 page)
-      ∷ blockFits (part 240 186 page)
+      blockKeeps (part 32 186 page) (windowIn (part 32 186 page))
+      ∷ blockKeeps (part 240 186 page) (windowIn (part 240 186 page))
       ∷ headFits (headIn page)
       ∷ tailFits (tailIn page)
       ∷ clear 13 19 page
@@ -162,7 +118,7 @@ module _ (page : List ℕ) (ok : readRefusal page ≡ none) where
     window-again :
         (at : ℕ) →
         at + 186 ≤ 512 →
-        blockFits (part at 186 page) ≡ true →
+        blockKeeps (part at 186 page) (windowIn (part at 186 page)) ≡ true →
         blockBytes (windowIn (part at 186 page)) ≡ part at 186 page
     window-again at h =
         block-again (part at 186 page) (bytes-take 186 (drop at page) (bytes-drop at page b))

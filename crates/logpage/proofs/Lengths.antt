@@ -1,29 +1,16 @@
 -- The lengths of the page's parts.
-use mathlib.Core.List.{List, [], _∷_}
 use mathlib.Core.Path.{_≡_, refl}
-use Prim.Native.Nat.{ℕ, _*_}
-use native.Mathlib.Nat.{mul-suc}
-use native.Mathlib.Omega.{arith}
+use Prim.Native.Nat.{ℕ}
 use lib.ListN.{length, length-append}
 use Rattle.endian.specs.Stores.{fields, total}
-use Rattle.endian.proofs.Runs.{length-low, length-fields}
-use Rattle.logpage.specs.Block.{buckets, downward, column, blockWidths, blockValues, blockBytes}
+use Rattle.endian.proofs.Runs.{length-fields}
 use Rattle.logpage.specs.Page.{headWidths, headValues, headBytes, windowsBytes, tailWidths, tailValues, tailBytes}
 use Rattle.logpage.specs.Page.{identityWidths, identityValues, pageBytes}
-use Rattle.logpage.specs.declared.DebugLog.{DebugLog}
-use Rattle.logpage.specs.declared.Settings.{Settings}
-use Rattle.logpage.specs.declared.Window.{Window}
+use Rattle.logpage.specs.declared.fields.DebugLog.{DebugLog}
+use Rattle.logpage.specs.declared.fields.Settings.{Settings}
+use Rattle.window.specs.declared.fields.Window.{Window}
 use Rattle.logpage.specs.declared.page.LogPage.{LogPage}
-
-pub length-column : (width : ℕ) (values : List ℕ) → length (column width values) ≡ width * length values
-unfolding fields
-length-column width [] = omega arith
-length-column width (v ∷ values) =
-    rw (length-append, length-low, mul-suc) (omega (arith, length-column width values))
-
-pub length-block : (w : Window) → length (blockBytes w) ≡ 186
-unfolding blockBytes buckets downward total
-length-block w = length-fields blockWidths (blockValues w) refl
+use Rattle.window.proofs.Lengths.{length-block}
 
 pub length-head-fields : (s : Settings) (timer : ℕ) → length (fields headWidths (headValues s timer)) ≡ 13
 unfolding total

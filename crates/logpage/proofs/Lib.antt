@@ -1,6 +1,5 @@
 pub mod Lengths
-pub mod Lists
+pub mod Rows
 pub mod OneBit
-pub mod Table
 pub mod Accepted
 pub mod Written

@@ -3,7 +3,7 @@ use mathlib.Core.Bool.{Bool, true}
 use mathlib.Core.List.{List, [], _∷_}
 use mathlib.Core.Option.{none as no-refusal}
 use mathlib.Core.Path.{_≡_, refl, sym, ap, _∙_}
-use Prim.Native.Nat.{ℕ, _+_, _*_, _<_}
+use Prim.Native.Nat.{ℕ, _<_}
 use native.Mathlib.Omega.{arith}
 use borrow.Author.Tests.{lt-ltb}
 use lib.Dec.{lit<}
@@ -12,58 +12,20 @@ use Rattle.endian.specs.Bytes.{anySet}
 use Rattle.endian.specs.Loads.{part, valuesAt}
 use Rattle.endian.specs.Stores.{lowFirst, fields}
 use Rattle.endian.proofs.Layouts.{Fit, none, _▸_, narrow, values-back}
-use Rattle.logpage.specs.Block.{flag, bits, flags, buckets, downward, blockWidths, blockValues, blockBytes}
-use Rattle.logpage.specs.BlockReader.{windowIn, ofTwelve, clear, windowFits, blockKeeps, blockFits}
+use Rattle.window.specs.Block.{flag, buckets, downward, blockBytes}
+use Rattle.window.specs.BlockReader.{windowIn, ofTwelve, clear, windowFits}
 use Rattle.logpage.specs.Claims.{ReadAsWritten}
-use Rattle.logpage.specs.Fields.{from, FitsWindow, Fits}
+use Rattle.logpage.specs.Fields.{Fits}
+use Rattle.window.specs.Fields.{from}
 use Rattle.logpage.specs.Page.{headWidths, headValues, headBytes, windowsBytes, tailWidths, tailValues, tailBytes}
 use Rattle.logpage.specs.Page.{identityWidths, identityValues, pageBytes}
 use Rattle.logpage.specs.Reader.{headIn, tailIn, debugFrom, fieldsIn, headFits, tailFits, debugFits, pageKeeps}
 use Rattle.logpage.specs.Reader.{pageFits, identified, readRefusal, readingOf, fieldsFit}
-use Rattle.logpage.specs.declared.Window.{Window}
 use Rattle.logpage.specs.declared.page.LogPage.{LogPage}
-use Rattle.logpage.proofs.Lists.{entries, twelve, passed, flag-back, flags-back}
+use Rattle.window.proofs.Lists.{entries, passed, flag-back}
 use Rattle.logpage.proofs.Lengths.{length-page}
-use Rattle.logpage.proofs.block.Laws.{flag-below, bits-fit}
-
--- a block
-module _ (w : Window) (x : FitsWindow w) where
-  bucket-fit : (b : ℕ) {widths values : List ℕ} → Fit widths values
-      → Fit (4 ∷ 4 ∷ 4 ∷ 4 ∷ widths)
-      (0 ∷ getD (w .counters) (3 * b + 2) 0 ∷ getD (w .counters) (3 * b + 1) 0 ∷ getD (w .counters) (3 * b) 0 ∷ values)
-  bucket-fit b later = lit< tt ▸ x .counters _ ▸ x .counters _ ▸ x .counters _ ▸ later
-
-  units-fit : bits (w .units) < 65536
-  units-fit = omega (arith, bits-fit (w .units) 0 (omega (arith, x .twelve-units)))
-
-  block-fit : Fit blockWidths (blockValues w)
-  unfolding buckets downward
-  block-fit =
-      let s = x .stamps in
-      let l = x .latencies in
-      bucket-fit 0 (bucket-fit 1 (bucket-fit 2 (bucket-fit 3
-      (s 11 ▸ s 10 ▸ s 9 ▸ s 8 ▸ s 7 ▸ s 6 ▸ s 5 ▸ s 4 ▸ s 3 ▸ s 2 ▸ s 1 ▸ s 0 ▸
-      l 11 ▸ l 10 ▸ l 9 ▸ l 8 ▸ l 7 ▸ l 6 ▸ l 5 ▸ l 4 ▸ l 3 ▸ l 2 ▸ l 1 ▸ l 0 ▸ units-fit ▸ none))))
-
-  pub block-values : valuesAt 0 blockWidths (blockBytes w) ≡ blockValues w
-  unfolding blockBytes narrow
-  block-values = values-back block-fit refl
-
-  pub window-back : windowIn (blockBytes w) ≡ w
-  unfolding windowIn from buckets downward
-  window-back =
-      let c = twelve 0 (w .counters) (x .twelve-counters) in
-      let s = twelve 0 (w .stamps) (x .twelve-stamps) in
-      let l = twelve 0 (w .latencies) (x .twelve-latencies) in
-      let u : flags 12 (bits (w .units)) ≡ w .units = rw (x .twelve-units) at (flags-back (w .units)) in
-      rw block-values (λ i. record { counters = c i; stamps = s i; latencies = l i; units = u i })
-
-buckets-clear :
-    (w : Window) →
-    let block = blockBytes w in
-    (clear 0 4 block ≡ true) × (clear 16 4 block ≡ true) × (clear 32 4 block ≡ true) × (clear 48 4 block ≡ true)
-unfolding blockBytes buckets downward fields lowFirst anySet
-buckets-clear w = (refl, refl, refl, refl)
+use Rattle.window.proofs.block.Laws.{flag-below}
+use Rattle.window.proofs.Written.{window-back, block-kept}
 
 four-entries : (l : List ℕ) → length l ≡ 4 → getD l 0 0 ∷ getD l 1 0 ∷ getD l 2 0 ∷ getD l 3 0 ∷ [] ≡ l
 unfolding from
@@ -174,13 +136,6 @@ module _ (p : LogPage) (x : Fits p) (fit : fieldsFit p ≡ true) where
   kept : (k : ℕ) → getD rules k true ≡ true
   unfolding fieldsFit
   kept = passed rules fit
-
-  block-kept : (w : Window) → FitsWindow w → windowFits w ≡ true → blockFits (blockBytes w) ≡ true
-  unfolding blockKeeps buckets downward
-  block-kept w y f =
-      let m : ofTwelve (bits (w .units)) ≡ true = lt-ltb _ _ (bits-fit (w .units) 0 (omega (arith, y .twelve-units))) in
-      let z = buckets-clear w in
-      rw (z .0, z .1, z .2, z .3, block-values w y, m, window-back w y, f)
 
   head-kept : headFits (headIn (pageBytes p)) ≡ true
   head-kept = rw (head-back p x, lt-ltb _ _ (flag-below (p .settings .enabled)), kept 0)

@@ -1,6 +1,5 @@
 -- What is answered where something may be turned away.
-use mathlib.Core.Bool.{Bool, true, false, _&&_}
-use mathlib.Core.List.{List, [], _∷_}
+use mathlib.Core.Bool.{Bool, true, false}
 use mathlib.Core.Option.{Option, none, some}
 use Prim.Native.Nat.{ℕ}
 use Rattle.logpage.specs.declared.answers.Answer.{Answer}
@@ -15,11 +14,3 @@ refusalIn Done = none
 abbrev pub row : ℕ → Bool → Option ℕ → Option ℕ
 row n true later = some n
 row n false later = later
-
--- whether every test of a list passes
-abbrev pub passes : Bool → List Bool → Bool
-passes so-far [] = so-far
-passes so-far (test ∷ tests) = passes (so-far && test) tests
-
-abbrev pub all : List Bool → Bool
-all tests = passes true tests

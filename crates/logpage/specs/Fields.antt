@@ -1,17 +1,12 @@
 -- The plain fields of log page C3h.
-use mathlib.Core.Bool.{Bool, false}
-use mathlib.Core.List.{List, [], _∷_}
+use mathlib.Core.Bool.{false}
 use mathlib.Core.Path.{_≡_}
-use Prim.Native.Nat.{ℕ, zero, suc, _<_}
+use Prim.Native.Nat.{ℕ, _<_}
 use lib.ListN.{length, getD, replicate}
-use Rattle.logpage.specs.declared.Settings.{Settings}
-use Rattle.logpage.specs.declared.Window.{Window}
-use Rattle.logpage.specs.declared.DebugLog.{DebugLog}
+use Rattle.logpage.specs.declared.fields.Settings.{Settings}
+use Rattle.logpage.specs.declared.fields.DebugLog.{DebugLog}
 use Rattle.logpage.specs.declared.page.LogPage.{LogPage}
-
--- 01, The monitor's record: all ones stand for a stamp that is not set
-abbrev pub unset : ℕ
-unset = 0xffff_ffff_ffff_ffff
+use Rattle.window.specs.Fields.{unset, FitsWindow}
 
 -- 01, The monitor's record: the settings before any are accepted
 unfoldable pub noSettings : Settings
@@ -25,32 +20,9 @@ noSettings =
       enabled = false;
     }
 
--- a window of these arrays, by counter number; document 01 calls the latencies shown, and the units clock marks
-abbrev pub windowOf : List ℕ → List ℕ → List ℕ → List Bool → Window
-windowOf counters stamps latencies units =
-    record { counters = counters; stamps = stamps; latencies = latencies; units = units }
-
--- 01, The monitor's record: a window in which nothing was counted
-unfoldable pub emptyWindow : Window
-emptyWindow =
-    record {
-      counters = replicate 12 0;
-      stamps = replicate 12 unset;
-      latencies = replicate 12 0;
-      units = replicate 12 false;
-    }
-
 -- 01, The monitor's record: no debug log is held (document 01: debug record); the unset stamp says so
 unfoldable pub noDebugLog : DebugLog
 noDebugLog = record { stamp = unset; latency = 0; source = 0; units = false }
-
--- f i, f (i + 1), .., n of them; and f 0 to f 11, of the twelve counters
-unfoldable pub from : {A : Type 0} → (i n : ℕ) → (ℕ → A) → List A
-from i zero f = []
-from i (suc n) f = f i ∷ from (suc i) n f
-
-abbrev pub each : {A : Type 0} → (ℕ → A) → List A
-each f = from 0 12 f
 
 -- what the code's types hold
 pub record FitsSettings (s : Settings) : Type 0 where
@@ -60,15 +32,6 @@ pub record FitsSettings (s : Settings) : Type 0 where
   pub four : length (s .thresholds) ≡ 4
   pub thresholds : (n : ℕ) → getD (s .thresholds) n 0 < 256
   pub minimum : s .«minimum_window» < 256
-
-pub record FitsWindow (w : Window) : Type 0 where
-  pub twelve-counters : length (w .counters) ≡ 12
-  pub counters : (n : ℕ) → getD (w .counters) n 0 < 4294967296
-  pub twelve-stamps : length (w .stamps) ≡ 12
-  pub stamps : (n : ℕ) → getD (w .stamps) n 0 < 18446744073709551616
-  pub twelve-latencies : length (w .latencies) ≡ 12
-  pub latencies : (n : ℕ) → getD (w .latencies) n 0 < 65536
-  pub twelve-units : length (w .units) ≡ 12
 
 pub record FitsDebug (d : DebugLog) : Type 0 where
   pub stamp : d .stamp < 18446744073709551616

@@ -4,10 +4,10 @@ use mathlib.Core.List.{List, [], _∷_, _++_}
 use Prim.Native.Nat.{ℕ, _/_, _%_, _^_}
 use lib.ListN.{getD}
 use Rattle.endian.specs.Stores.{fields}
-use Rattle.logpage.specs.Block.{zeros, flag, blockBytes}
-use Rattle.logpage.specs.declared.DebugLog.{DebugLog}
-use Rattle.logpage.specs.declared.Settings.{Settings}
-use Rattle.logpage.specs.declared.Window.{Window}
+use Rattle.window.specs.Block.{zeros, flag, blockBytes}
+use Rattle.logpage.specs.declared.fields.DebugLog.{DebugLog}
+use Rattle.logpage.specs.declared.fields.Settings.{Settings}
+use Rattle.window.specs.declared.fields.Window.{Window}
 use Rattle.logpage.specs.declared.page.LogPage.{LogPage}
 
 -- bytes 0 to 12

@@ -7,13 +7,15 @@ use lib.Count.{ones, trailingZeros}
 use lib.Dec.{eqb, ltb}
 use lib.ListN.{length, getD}
 use Rattle.endian.specs.Loads.{part, valuesAt}
-use Rattle.logpage.specs.Answers.{row, all}
-use Rattle.logpage.specs.BlockReader.{windowIn, ofTwelve, clear, windowFits, blockKeeps}
-use Rattle.logpage.specs.Fields.{unset, noSettings, emptyWindow, noDebugLog}
+use Rattle.logpage.specs.Answers.{row}
+use Rattle.window.specs.Tests.{all}
+use Rattle.window.specs.BlockReader.{windowIn, ofTwelve, clear, windowFits, blockKeeps}
+use Rattle.logpage.specs.Fields.{noSettings, noDebugLog}
+use Rattle.window.specs.Fields.{unset, emptyWindow}
 use Rattle.logpage.specs.Page.{headWidths, tailWidths, identityWidths, identityValues}
-use Rattle.logpage.specs.declared.DebugLog.{DebugLog}
-use Rattle.logpage.specs.declared.Settings.{Settings}
-use Rattle.logpage.specs.declared.Window.{Window}
+use Rattle.logpage.specs.declared.fields.DebugLog.{DebugLog}
+use Rattle.logpage.specs.declared.fields.Settings.{Settings}
+use Rattle.window.specs.declared.fields.Window.{Window}
 use Rattle.logpage.specs.declared.page.LogPage.{LogPage}
 use Rattle.logpage.specs.declared.reader.Reading.{Reading}
 

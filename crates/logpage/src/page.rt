@@ -5,10 +5,10 @@ ghost use lib.Dec.{eqb};
 ghost use lib.ListN.{length};
 ghost use lib.Seq.{sets};
 ghost use Rattle.logpage.specs.Page.{headBytes, windowsBytes, tailBytes, pageBytes};
-use crate::DebugLog;
-use crate::Settings;
-use crate::Window;
-use crate::block;
+use crate::fields::DebugLog;
+use crate::fields::Settings;
+use window::Window;
+use window::block;
 
 // The fields of bytes 0 to 12, of 448 to 464, and of 494 to 511, by their widths: for the writer and the reader.
 pub(crate) const HEAD_WIDTHS: [usize; 10] = [1, 1, 2, 2, 1, 1, 1, 1, 2, 1];

@@ -6,15 +6,15 @@ ghost use Rattle.logpage.specs.Page.{headWidths, tailWidths};
 ghost use Rattle.logpage.specs.Reader.{headIn, tailIn, identityIn, identified, Bounded, settingsFrom, debugFrom};
 ghost use Rattle.logpage.specs.Reader.{debugCounter, shown, noReading, headFits, tailFits, debugFits, pageKeeps};
 ghost use Rattle.logpage.specs.Reader.{layoutRefusal, readingAfter, readRefusal, readingOf};
-use crate::Answer;
-use crate::DebugLog;
-use crate::LogPage;
-use crate::Settings;
-use crate::UNSET;
-use crate::Window;
-use crate::block_reader;
+use crate::answers::Answer;
+use crate::fields::DebugLog;
+use crate::fields::Settings;
 use crate::page;
+use crate::page::LogPage;
 use crate::refusals;
+use window::UNSET;
+use window::Window;
+use window::block_reader;
 
 // What a page shows. The page has the debug log's counter as one set bit; its number stands beside, 0 where none is
 // held.

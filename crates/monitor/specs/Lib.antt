@@ -1,16 +1,4 @@
-pub mod Settings
-pub mod Commands
-pub mod Counting
-pub mod Timer
-pub mod Refusals
-pub mod Answers
 pub mod Record
-pub mod Tally
 pub mod Report
-pub mod History
-pub mod Passing
+pub mod Calls
 pub mod Reasons
-pub mod Facts
-pub mod Edges
-pub mod Claims
-pub mod Order

@@ -6,13 +6,13 @@ use mathlib.Core.Path.{_≡_}
 use Prim.Native.Nat.{ℕ, suc, _≤_}
 use lib.Dec.{eqb}
 use lib.ListN.{getD}
-use Rattle.logpage.specs.Fields.{unset}
-use Rattle.monitor.specs.declared.commands.Command.{Command}
+use Rattle.window.specs.Fields.{unset}
+use Rattle.rules.specs.declared.commands.Command.{Command}
 use Rattle.monitor.specs.declared.record.Monitor.{Monitor}
-use Rattle.monitor.specs.Answers.{loadedIn}
-use Rattle.monitor.specs.Commands.{kindOf, hasKind, bucketOf, counterAt, reachesA, millisecondsOf}
-use Rattle.monitor.specs.Counting.{bit, larger, waited}
-use Rattle.monitor.specs.History.{found}
+use Rattle.rules.specs.Answers.{loadedIn}
+use Rattle.rules.specs.Commands.{kindOf, hasKind, bucketOf, counterAt, reachesA, millisecondsOf}
+use Rattle.rules.specs.Counting.{bit, larger, waited}
+use Rattle.monitor.specs.Calls.{found}
 use Rattle.monitor.specs.Record.{sinceLoad, completionAnswer}
 
 -- a sentence about the record and the completion

@@ -5,16 +5,20 @@ use mathlib.Core.Option.{Option, none, some}
 use Prim.Native.Nat.{ℕ, _-_}
 use lib.Dec.{eqb}
 use lib.ListN.{getD, set, replicate}
-use Rattle.logpage.specs.Fields.{noSettings, emptyWindow, noDebugLog}
-use Rattle.monitor.specs.declared.commands.Command.{Command}
+use Rattle.logpage.specs.Fields.{noSettings, noDebugLog}
+use Rattle.window.specs.Fields.{emptyWindow}
+use Rattle.window.specs.declared.fields.Window.{Window}
+use Rattle.logpage.specs.declared.fields.DebugLog.{DebugLog}
+use Rattle.logpage.specs.declared.fields.Settings.{Settings}
+use Rattle.rules.specs.declared.commands.Command.{Command}
 use Rattle.monitor.specs.declared.record.Monitor.{Monitor}
-use Rattle.monitor.specs.declared.timer.Tick.{Tick}
-use Rattle.monitor.specs.Answers.{CallAnswer, done, notCounted, counted, ended, unlessRefused}
-use Rattle.monitor.specs.Commands.{counterOf, belowAOf, millisecondsOf}
-use Rattle.monitor.specs.Refusals.{settingsRefusal, elapsedRefusal, clockRefusal}
-use Rattle.monitor.specs.Settings.{discard, decoded}
-use Rattle.monitor.specs.Counting.{bit, loads, countedIn, countedBelowA, triggers, debugLog}
-use Rattle.monitor.specs.Timer.{grown, ticked, inWindow}
+use Rattle.rules.specs.declared.timer.Tick.{Tick}
+use Rattle.rules.specs.Answers.{CallAnswer, done, notCounted, counted, ended, unlessRefused}
+use Rattle.rules.specs.Commands.{counterOf, belowAOf, millisecondsOf}
+use Rattle.rules.specs.Refusals.{settingsRefusal, elapsedRefusal, clockRefusal}
+use Rattle.rules.specs.Settings.{discard, decoded}
+use Rattle.rules.specs.Counting.{bit, loads, countedIn, countedBelowA, triggers, debugLog}
+use Rattle.rules.specs.Timer.{grown, ticked, inWindow}
 
 -- no stamp was loaded in the active window
 abbrev pub noLoads : List ℕ
@@ -43,29 +47,127 @@ newMonitor =
       debug = noDebugLog;
     }
 
+-- the record with another part, all else as it was: the settings; the clock; the timer; the active window, the times of
+-- its loads and its counts below threshold A; the static window and its counts below threshold A; the debug log
+abbrev pub withSettings : Monitor → Settings → Monitor
+withSettings m settings =
+    record {
+      settings = settings;
+      clock = m .clock;
+      «host_set» = m .«host_set»;
+      timer = m .timer;
+      partial = m .partial;
+      «active_window» = m .«active_window»;
+      loaded = m .loaded;
+      «active_below_a» = m .«active_below_a»;
+      «static_window» = m .«static_window»;
+      «static_below_a» = m .«static_below_a»;
+      debug = m .debug;
+    }
+
+abbrev pub withClock : Monitor → (clock : ℕ) (hostSet : Bool) → Monitor
+withClock m clock hostSet =
+    record {
+      settings = m .settings;
+      clock = clock;
+      «host_set» = hostSet;
+      timer = m .timer;
+      partial = m .partial;
+      «active_window» = m .«active_window»;
+      loaded = m .loaded;
+      «active_below_a» = m .«active_below_a»;
+      «static_window» = m .«static_window»;
+      «static_below_a» = m .«static_below_a»;
+      debug = m .debug;
+    }
+
+abbrev pub withTimer : Monitor → (timer partial : ℕ) → Monitor
+withTimer m timer partial =
+    record {
+      settings = m .settings;
+      clock = m .clock;
+      «host_set» = m .«host_set»;
+      timer = timer;
+      partial = partial;
+      «active_window» = m .«active_window»;
+      loaded = m .loaded;
+      «active_below_a» = m .«active_below_a»;
+      «static_window» = m .«static_window»;
+      «static_below_a» = m .«static_below_a»;
+      debug = m .debug;
+    }
+
+abbrev pub withActiveWindow : Monitor → Window → (loaded belowA : List ℕ) → Monitor
+withActiveWindow m window loaded belowA =
+    record {
+      settings = m .settings;
+      clock = m .clock;
+      «host_set» = m .«host_set»;
+      timer = m .timer;
+      partial = m .partial;
+      «active_window» = window;
+      loaded = loaded;
+      «active_below_a» = belowA;
+      «static_window» = m .«static_window»;
+      «static_below_a» = m .«static_below_a»;
+      debug = m .debug;
+    }
+
+abbrev pub withStaticWindow : Monitor → Window → (belowA : List ℕ) → Monitor
+withStaticWindow m window belowA =
+    record {
+      settings = m .settings;
+      clock = m .clock;
+      «host_set» = m .«host_set»;
+      timer = m .timer;
+      partial = m .partial;
+      «active_window» = m .«active_window»;
+      loaded = m .loaded;
+      «active_below_a» = m .«active_below_a»;
+      «static_window» = window;
+      «static_below_a» = belowA;
+      debug = m .debug;
+    }
+
+abbrev pub withDebugLog : Monitor → DebugLog → Monitor
+withDebugLog m debug =
+    record {
+      settings = m .settings;
+      clock = m .clock;
+      «host_set» = m .«host_set»;
+      timer = m .timer;
+      partial = m .partial;
+      «active_window» = m .«active_window»;
+      loaded = m .loaded;
+      «active_below_a» = m .«active_below_a»;
+      «static_window» = m .«static_window»;
+      «static_below_a» = m .«static_below_a»;
+      debug = debug;
+    }
+
 -- what a call leaves of the record, or of a lent buffer: the old content if it is refused, else the next
 abbrev pub untouchedIf : {A : Type 0} → Option ℕ → A → A → A
 untouchedIf (some n) old next = old
 untouchedIf none old next = next
 
--- 01, Settings: the record after accepted settings. Enabling starts windows and timer anew, even if no setting differs;
--- disabling leaves them as they are. Discard decides on the debug log by itself
+-- 01, Settings: enabling empties both windows and starts the timer anew, even if no setting differs; disabling leaves
+-- them as they are
+abbrev pub restartedIf : Bool → Monitor → Monitor
+restartedIf on m =
+    withTimer
+    (withStaticWindow
+    (withActiveWindow m (cond on emptyWindow (m .«active_window»)) (cond on noLoads (m .loaded))
+    (cond on noneBelowA (m .«active_below_a»)))
+    (cond on emptyWindow (m .«static_window»))
+    (cond on noneBelowA (m .«static_below_a»)))
+    (cond on 0 (m .timer))
+    (cond on 0 (m .partial))
+
+-- 01, Settings: the record after accepted settings. Discard decides on the debug log by itself
 abbrev replaced : Monitor → List ℕ → Monitor
 replaced m s =
-    let on : Bool = decoded s .enabled in
-    record {
-      settings = decoded s;
-      clock = m .clock;
-      «host_set» = m .«host_set»;
-      timer = cond on 0 (m .timer);
-      partial = cond on 0 (m .partial);
-      «active_window» = cond on emptyWindow (m .«active_window»);
-      loaded = cond on noLoads (m .loaded);
-      «active_below_a» = cond on noneBelowA (m .«active_below_a»);
-      «static_window» = cond on emptyWindow (m .«static_window»);
-      «static_below_a» = cond on noneBelowA (m .«static_below_a»);
-      debug = cond (eqb (discard s) 1) noDebugLog (m .debug);
-    }
+    withDebugLog (withSettings (restartedIf (decoded s .enabled) m) (decoded s))
+    (cond (eqb (discard s) 1) noDebugLog (m .debug))
 
 -- what settings do, and what they answer
 unfoldable pub afterSettings : Monitor → List ℕ → Monitor
@@ -93,36 +195,16 @@ triggersAt m n = triggers (bit (m .settings .trigger) n) (m .debug .stamp)
 -- the record after a completion of so many ms that counts for counter n
 abbrev afterCounted : Monitor → ℕ → ℕ → Monitor
 afterCounted m n ms =
-    record {
-      settings = m .settings;
-      clock = m .clock;
-      «host_set» = m .«host_set»;
-      timer = m .timer;
-      partial = m .partial;
-      «active_window» = countedIn (loadsAt m n ms) n (m .clock) ms (m .«host_set») (m .«active_window»);
-      loaded = cond (loadsAt m n ms) (set (m .loaded) n (inWindow (m .timer) (m .partial))) (m .loaded);
-      «active_below_a» = m .«active_below_a»;
-      «static_window» = m .«static_window»;
-      «static_below_a» = m .«static_below_a»;
-      debug = cond (triggersAt m n) (debugLog n (m .clock) ms (m .«host_set»)) (m .debug);
-    }
+    let load : Bool = loadsAt m n ms in
+    withDebugLog
+    (withActiveWindow m (countedIn load n (m .clock) ms (m .«host_set») (m .«active_window»))
+    (cond load (set (m .loaded) n (inWindow (m .timer) (m .partial))) (m .loaded))
+    (m .«active_below_a»))
+    (cond (triggersAt m n) (debugLog n (m .clock) ms (m .«host_set»)) (m .debug))
 
 -- 02, Ticket 2: the record with other counts below threshold A in the active window
 abbrev pub withBelowA : Monitor → List ℕ → Monitor
-withBelowA m counts =
-    record {
-      settings = m .settings;
-      clock = m .clock;
-      «host_set» = m .«host_set»;
-      timer = m .timer;
-      partial = m .partial;
-      «active_window» = m .«active_window»;
-      loaded = m .loaded;
-      «active_below_a» = counts;
-      «static_window» = m .«static_window»;
-      «static_below_a» = m .«static_below_a»;
-      debug = m .debug;
-    }
+withBelowA m counts = withActiveWindow m (m .«active_window») (m .loaded) counts
 
 -- by the counter; without one, by the kind below threshold A, if it is below
 abbrev onCounter : Option ℕ → Option ℕ → Monitor → ℕ → Monitor
@@ -147,24 +229,20 @@ abbrev pub tickedBy : Monitor → ℕ → Tick
 tickedBy m ms =
     ticked (m .settings .enabled) (m .settings .«timer_threshold») (m .timer) (m .partial) ms
 
--- 01, Time and power: the record after accepted elapsed time. A window that ends takes the static window's place, and
--- its counts below threshold A go with it
+-- 01, Time and power: a window that ends takes the static window's place, and its counts below threshold A go with it
+abbrev pub endedIf : Bool → Monitor → Monitor
+endedIf expired m =
+    withStaticWindow
+    (withActiveWindow m (cond expired emptyWindow (m .«active_window»)) (cond expired noLoads (m .loaded))
+    (cond expired noneBelowA (m .«active_below_a»)))
+    (cond expired (m .«active_window») (m .«static_window»))
+    (cond expired (m .«active_below_a») (m .«static_below_a»))
+
+-- 01, Time and power: the record after accepted elapsed time
 abbrev afterTime : Monitor → ℕ → Monitor
 afterTime m ms =
     let t : Tick = tickedBy m ms in
-    record {
-      settings = m .settings;
-      clock = grown (m .clock) ms;
-      «host_set» = m .«host_set»;
-      timer = t .timer;
-      partial = t .partial;
-      «active_window» = cond (t .expired) emptyWindow (m .«active_window»);
-      loaded = cond (t .expired) noLoads (m .loaded);
-      «active_below_a» = cond (t .expired) noneBelowA (m .«active_below_a»);
-      «static_window» = cond (t .expired) (m .«active_window») (m .«static_window»);
-      «static_below_a» = cond (t .expired) (m .«active_below_a») (m .«static_below_a»);
-      debug = m .debug;
-    }
+    withTimer (withClock (endedIf (t .expired) m) (grown (m .clock) ms) (m .«host_set»)) (t .timer) (t .partial)
 
 -- 01, Time and power: what elapsed time does, and what it answers
 unfoldable pub afterElapsed : Monitor → ℕ → Monitor
@@ -172,23 +250,6 @@ afterElapsed m ms = untouchedIf (elapsedRefusal ms) m (afterTime m ms)
 
 unfoldable pub elapsedAnswer : Monitor → ℕ → CallAnswer
 elapsedAnswer m ms = unlessRefused (elapsedRefusal ms) (ended (tickedBy m ms .expired))
-
--- the record with another clock; the windows, and the times of the active one and of its loads, stay
-abbrev withClock : Monitor → ℕ → Bool → Monitor
-withClock m value hostSet =
-    record {
-      settings = m .settings;
-      clock = value;
-      «host_set» = hostSet;
-      timer = m .timer;
-      partial = m .partial;
-      «active_window» = m .«active_window»;
-      loaded = m .loaded;
-      «active_below_a» = m .«active_below_a»;
-      «static_window» = m .«static_window»;
-      «static_below_a» = m .«static_below_a»;
-      debug = m .debug;
-    }
 
 -- 01, Time and power: the host sets the clock (document 01: host-set)
 unfoldable pub afterClock : Monitor → ℕ → Monitor

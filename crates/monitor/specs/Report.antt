@@ -4,14 +4,14 @@ use Prim.Native.Nat.{ℕ}
 use lib.ListN.{length}
 use Rattle.logpage.specs.Page.{pageBytes}
 use Rattle.logpage.specs.declared.page.LogPage.{LogPage}
-use Rattle.logpage.specs.declared.Window.{Window}
+use Rattle.window.specs.declared.fields.Window.{Window}
 use Rattle.monitor.specs.declared.record.Monitor.{Monitor}
-use Rattle.monitor.specs.declared.report.WindowChoice.{WindowChoice}
-use Rattle.monitor.specs.declared.report.WindowChoice.the-variants.{Active, Static}
-use Rattle.monitor.specs.Answers.{CallAnswer, done, unlessRefused}
+use Rattle.monitor.specs.declared.windows.WindowChoice.{WindowChoice}
+use Rattle.monitor.specs.declared.windows.WindowChoice.the-variants.{Active, Static}
+use Rattle.rules.specs.Answers.{CallAnswer, done, unlessRefused}
 use Rattle.monitor.specs.Record.{untouchedIf}
-use Rattle.monitor.specs.Refusals.{pageRefusal, settingsBackRefusal}
-use Rattle.monitor.specs.Settings.{encoded}
+use Rattle.rules.specs.Refusals.{pageRefusal, settingsBackRefusal}
+use Rattle.rules.specs.Settings.{encoded}
 
 -- what the page shows of a record
 abbrev pub fieldsOf : Monitor → LogPage

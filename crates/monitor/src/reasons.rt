@@ -2,11 +2,11 @@
 ghost use mathlib.Core.Path.{_≡_};
 ghost use Prim.Native.Nat.{_<_};
 ghost use Rattle.monitor.specs.Reasons.{reasonOf, stampReasonOf};
-use crate::commands::Command;
-use crate::counting;
 use crate::record::Monitor;
-use crate::timer;
-use logpage::UNSET;
+use rules::commands::Command;
+use rules::counting;
+use rules::timer;
+use window::UNSET;
 
 // Nothing keeps the stamp from being loaded.
 const LOADED: u8 = 0;

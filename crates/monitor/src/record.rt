@@ -1,23 +1,23 @@
 // The monitor's record, and the calls that take it and hand back the next one with their answer.
 ghost use mathlib.Core.Path.{_≡_};
 ghost use Prim.Native.Nat.{_<_};
-ghost use Rattle.monitor.specs.Answers.{done, saysAnswer, saysCompletion, saysElapsed};
+ghost use Rattle.rules.specs.Answers.{done, saysAnswer, saysCompletion, saysElapsed};
 ghost use Rattle.monitor.specs.Record.{newMonitor, afterSettings, settingsAnswer, afterCompletion, completionAnswer};
 ghost use Rattle.monitor.specs.Record.{afterElapsed, elapsedAnswer, afterClock, clockAnswer, afterPowerUp};
 ghost use Rattle.monitor.specs.Record.{loadsAt};
-use crate::answers::CompletionAnswer;
-use crate::answers::ElapsedAnswer;
-use crate::commands::Command;
-use crate::commands::NOT_COUNTED;
-use crate::counting;
-use crate::refusals;
-use crate::settings;
-use crate::timer;
 use logpage::Answer;
 use logpage::DebugLog;
 use logpage::Settings;
-use logpage::UNSET;
-use logpage::Window;
+use rules::answers::CompletionAnswer;
+use rules::answers::ElapsedAnswer;
+use rules::commands::Command;
+use rules::commands::NOT_COUNTED;
+use rules::counting;
+use rules::refusals;
+use rules::settings;
+use rules::timer;
+use window::UNSET;
+use window::Window;
 
 // What the firmware keeps. The order of the fields keeps calls cheap (docs/DECISIONS.md, 'Shape for speed').
 #[repr(C)]

@@ -1,30 +1,21 @@
 // The calls that only read the record: the log page, the settings given back, and the counts below threshold A.
 ghost use mathlib.Core.Path.{_≡_};
 ghost use lib.ListN.{length};
-ghost use Rattle.monitor.specs.Answers.{saysAnswer};
-ghost use Rattle.monitor.specs.Facts.{belowACounts};
-ghost use Rattle.monitor.specs.History.{History, OfBytes, pastOf, play};
+ghost use Rattle.rules.specs.Answers.{saysAnswer};
 ghost use Rattle.monitor.specs.Report.{afterPage, pageAnswer, afterSettingsBack, settingsBackAnswer};
 ghost use Rattle.monitor.specs.Report.{countsBelowA};
-ghost use Rattle.monitor.specs.Claims.{pageByFacts, settingsByFacts};
 use crate::record::Monitor;
-use crate::refusals;
-use crate::settings;
+use crate::windows::WindowChoice;
 use logpage::Answer;
 use logpage::LogPage;
-
-// One of the record's windows.
-pub enum WindowChoice {
-    Active,
-    Static,
-}
+use rules::refusals;
+use rules::settings;
 
 impl Monitor {
     // Log page C3h, into a buffer of 512 bytes.
     pub fn page(self, page: &mut [u8]) -> Answer
         ensures bytes { λ _. ⌜ now (page .exit) ≡ afterPage self (now (page .entry)) ⌝ }
         ensures answer { λ r. ⌜ saysAnswer r ≡ pageAnswer (length (now (page .entry))) ⌝ }
-        ensures facts { λ _. ⌜ ((h : History) → self ≡ play h → now (page .exit) ≡ pageByFacts h (now (page .entry))) ⌝ }
     {
         let settings = self.settings;
         let timer = self.timer;
@@ -49,7 +40,6 @@ impl Monitor {
     pub fn settings_back(self, s: &mut [u8]) -> Answer
         ensures bytes { λ _. ⌜ now (s .exit) ≡ afterSettingsBack self (now (s .entry)) ⌝ }
         ensures answer { λ r. ⌜ saysAnswer r ≡ settingsBackAnswer (length (now (s .entry))) ⌝ }
-        ensures facts { λ _. ⌜ ((h : History) → OfBytes h → self ≡ play h → now (s .exit) ≡ settingsByFacts h (now (s .entry))) ⌝ }
     {
         if s.len() == settings::LENGTH {
             let bytes = settings::encode(self.settings);
@@ -63,7 +53,6 @@ impl Monitor {
     // For each kind by its number, the enabled completions below threshold A in a window; the page does not show them.
     pub fn below_a(self, window: WindowChoice) -> [u32; 3]
         ensures counts { λ r. ⌜ r ≡ countsBelowA window self ⌝ }
-        ensures facts { λ r. ⌜ ((h : History) → self ≡ play h → r ≡ belowACounts window (pastOf h)) ⌝ }
     {
         match window {
             WindowChoice::Active => self.active_below_a,

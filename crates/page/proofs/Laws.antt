@@ -6,10 +6,10 @@ use Prim.Native.Nat.{ℕ, _+_, _/_}
 use native.Mathlib.Omega.{arith}
 use lib.ListN.{length, length-append}
 use Rattle.monitor.specs.declared.record.Monitor.{Monitor}
-use Rattle.monitor.specs.History.{playFrom}
+use Rattle.monitor.specs.Calls.{playFrom}
 use Rattle.monitor.specs.Record.{newMonitor}
 use Rattle.events.specs.Claims.{InParts}
-use Rattle.events.specs.Records.{callsBefore, historyOf}
+use Rattle.events.specs.Files.{callsBefore, historyOf}
 use Rattle.events.proofs.Parts.{in-parts}
 use Rattle.page.specs.declared.progress.Progress.{Progress}
 use Rattle.page.specs.Progress.{SoFar, Reads}

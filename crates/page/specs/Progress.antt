@@ -4,9 +4,9 @@ use mathlib.Core.Path.{_≡_}
 use Prim.Native.Nat.{ℕ, _%_}
 use lib.ListN.{length}
 use Rattle.text.specs.Stored.{Stored}
-use Rattle.monitor.specs.History.{play}
+use Rattle.monitor.specs.Calls.{play}
 use Rattle.events.specs.Blocks.{refusedLines}
-use Rattle.events.specs.Records.{historyOf, wholeRecords}
+use Rattle.events.specs.Files.{historyOf, wholeRecords}
 use Rattle.page.specs.declared.progress.Progress.{Progress}
 
 -- t has been read: the monitor is the one that its records leave of a new one, and the next record's number is how many

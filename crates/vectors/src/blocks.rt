@@ -1,8 +1,10 @@
 // An event file in blocks, as the page program takes it, with the lines of what is refused.
 ghost use Prim.Native.Nat.{_<_, _≤_};
 use crate::compare;
-use crate::play;
 use monitor::Monitor;
+
+// The bytes of a record.
+pub const RECORD: usize = 16;
 
 // The records of a block: the lines of so many have room in a large buffer.
 const BLOCK: usize = 1024;
@@ -53,12 +55,23 @@ pub(crate) fn block_end(i: usize, to: usize, size: usize) -> usize
     if to - i < size { to } else { i + size }
 }
 
+// The records of a file from one number up to another; none, where the file has not so many.
+pub fn part(file: &[u8], from: usize, to: usize) -> &[u8] {
+    if file.len() / RECORD < to {
+        &file[0..0]
+    } else if to < from {
+        &file[0..0]
+    } else {
+        &file[RECORD * from..RECORD * to]
+    }
+}
+
 // The records of a file from one number up to another.
 pub fn records(mut t: Told, file: &[u8], from: usize, to: usize, expected: &[u8]) -> Told {
     let mut i = from;
     while i < to {
         let end = block_end(i, to, BLOCK);
-        t = block(t, play::part(file, i, end), i, expected);
+        t = block(t, part(file, i, end), i, expected);
         i = end;
     }
     t

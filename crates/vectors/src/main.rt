@@ -7,10 +7,11 @@ mod pages;
 mod play;
 mod reasons;
 mod vector;
+mod verdicts;
 
 use input::Part;
 use vector::Kind;
-use vector::Verdict;
+use verdicts::Verdict;
 
 // More turns than any run takes: nothing else says that the input ends.
 const TURNS: u64 = 1_099_511_627_776;

@@ -5,8 +5,8 @@ ghost use lib.ListN.{length};
 use crate::compare;
 use crate::input;
 use crate::input::Part;
-use crate::vector;
-use crate::vector::Verdict;
+use crate::verdicts;
+use crate::verdicts::Verdict;
 use logpage::Answer;
 use logpage::DebugLog;
 use logpage::LogPage;
@@ -140,5 +140,5 @@ pub fn next() -> Verdict {
     };
     let page = input::first(&bytes, length);
     let read = reads_as(page, refusal, &expected);
-    vector::judged(read & lists_as(page, input::first(&lines, line_bytes)))
+    verdicts::judged(read & lists_as(page, input::first(&lines, line_bytes)))
 }

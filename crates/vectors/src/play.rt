@@ -3,15 +3,14 @@
 ghost use mathlib.Core.Path.{_≡_};
 ghost use lib.ListN.{length};
 use crate::blocks;
+use crate::blocks::RECORD;
 use crate::blocks::Told;
 use crate::compare;
 use events::RecordAnswer;
 use monitor::Answer;
 use monitor::Monitor;
 
-// The bytes of a record, of a preset and of an expected answer.
-const RECORD: usize = 16;
-
+// The bytes of a preset, and of an expected answer.
 const PRESET: usize = 9;
 
 const ANSWER: usize = 2;
@@ -25,17 +24,6 @@ pub struct Played {
 // The number that four bytes make.
 fn number(s: &[u8]) -> u32 {
     (endian::load(s) % 4_294_967_296) as u32
-}
-
-// The records of a file from one number up to another; none, where the file has not so many.
-pub fn part(file: &[u8], from: usize, to: usize) -> &[u8] {
-    if file.len() / RECORD < to {
-        &file[0..0]
-    } else if to < from {
-        &file[0..0]
-    } else {
-        &file[RECORD * from..RECORD * to]
-    }
 }
 
 // A preset: a counter of the active window set to a value. 12 to 14 are the counts below A.
@@ -120,7 +108,7 @@ pub fn answered(file: &[u8], presets: &[u8], answers: &[u8]) -> Played {
     let mut i = 0;
     while i < whole {
         let m = with_presets(monitor, presets, i);
-        let o = events::apply(m, part(file, i, i + 1));
+        let o = events::apply(m, blocks::part(file, i, i + 1));
         monitor = o.next;
         let answer = o.answer;
         if !is_expected(answer, answers, i) {

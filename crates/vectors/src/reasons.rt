@@ -5,8 +5,8 @@ use crate::blocks;
 use crate::compare;
 use crate::input;
 use crate::input::Part;
-use crate::vector;
-use crate::vector::Verdict;
+use crate::verdicts;
+use crate::verdicts::Verdict;
 use events::Explained;
 use events::Question;
 
@@ -90,5 +90,5 @@ pub fn next() -> Verdict {
         return Verdict::Unread;
     };
     let asked = input::first(&questions, question_bytes);
-    vector::judged(all_answer(input::first(&file, bytes), asked))
+    verdicts::judged(all_answer(input::first(&file, bytes), asked))
 }

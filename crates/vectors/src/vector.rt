@@ -6,17 +6,11 @@ use crate::input::Part;
 use crate::pages;
 use crate::play;
 use crate::reasons;
+use crate::verdicts;
+use crate::verdicts::Verdict;
 use monitor::Answer;
 use monitor::Monitor;
 use monitor::WindowChoice;
-
-// What came of a vector.
-pub enum Verdict {
-    Agrees,
-    Differs,
-    // The input ended before the vector did, or a part of it does not fit.
-    Unread,
-}
 
 // What a vector is of.
 pub enum Kind {
@@ -24,27 +18,6 @@ pub enum Kind {
     Settings,
     Pages,
     Reasons,
-}
-
-pub fn judged(agrees: bool) -> Verdict {
-    if agrees {
-        Verdict::Agrees
-    } else {
-        Verdict::Differs
-    }
-}
-
-// Of two parts of a vector.
-fn both(a: Verdict, b: Verdict) -> Verdict {
-    match a {
-        Verdict::Agrees => b,
-        Verdict::Differs => match b {
-            Verdict::Agrees => a,
-            Verdict::Differs => a,
-            Verdict::Unread => b,
-        },
-        Verdict::Unread => a,
-    }
 }
 
 // The page that both monitors show, into the buffer of the vector.
@@ -56,9 +29,9 @@ fn page(m: Monitor, single: Monitor) -> Verdict {
     let Part::Read(refusal) = input::answer(&mut bytes) else {
         return Verdict::Unread;
     };
-    let as_a_whole = judged(compare::page(m, n, refusal, &bytes));
-    let by_records = judged(compare::page(single, n, refusal, &bytes));
-    both(as_a_whole, by_records)
+    let as_a_whole = verdicts::judged(compare::page(m, n, refusal, &bytes));
+    let by_records = verdicts::judged(compare::page(single, n, refusal, &bytes));
+    verdicts::both(as_a_whole, by_records)
 }
 
 // The settings that both monitors give back, into the buffer of the vector.
@@ -70,9 +43,9 @@ fn settings_back(m: Monitor, single: Monitor) -> Verdict {
     let Part::Read(refusal) = input::answer(&mut bytes) else {
         return Verdict::Unread;
     };
-    let as_a_whole = judged(compare::settings_back(m, n, refusal, &bytes));
-    let by_records = judged(compare::settings_back(single, n, refusal, &bytes));
-    both(as_a_whole, by_records)
+    let as_a_whole = verdicts::judged(compare::settings_back(m, n, refusal, &bytes));
+    let by_records = verdicts::judged(compare::settings_back(single, n, refusal, &bytes));
+    verdicts::both(as_a_whole, by_records)
 }
 
 // A window's counts below A, in both monitors.
@@ -81,9 +54,9 @@ fn below_a(m: Monitor, single: Monitor, window: WindowChoice) -> Verdict {
     if !input::fill(&mut bytes) {
         return Verdict::Unread;
     }
-    let as_a_whole = judged(compare::below_a(m, window, &bytes));
-    let by_records = judged(compare::below_a(single, window, &bytes));
-    both(as_a_whole, by_records)
+    let as_a_whole = verdicts::judged(compare::below_a(m, window, &bytes));
+    let by_records = verdicts::judged(compare::below_a(single, window, &bytes));
+    verdicts::both(as_a_whole, by_records)
 }
 
 // An event file by blocks, and the lines that are expected of it; no lines agree where they cannot be read.
@@ -119,8 +92,8 @@ fn events() -> Verdict {
     let given = settings_back(m, single);
     let active = below_a(m, single, WindowChoice::Active);
     let last = below_a(m, single, WindowChoice::Static);
-    let read = both(both(shown, given), both(active, last));
-    both(judged(t.agrees & a.agrees), read)
+    let read = verdicts::both(verdicts::both(shown, given), verdicts::both(active, last));
+    verdicts::both(verdicts::judged(t.agrees & a.agrees), read)
 }
 
 // Puts bytes into settings, each at its place. Whether all places were there.
@@ -174,7 +147,7 @@ fn settings() -> Verdict {
     let mut s = io::large_buffer();
     if n <= compare::LONGEST {
         let given = input::first(&patches, patch_bytes);
-        judged(configure_patched(&mut s[0..n], given, refusal, &bytes))
+        verdicts::judged(configure_patched(&mut s[0..n], given, refusal, &bytes))
     } else {
         Verdict::Differs
     }

@@ -9,14 +9,15 @@ use lib.ListN.{length, take, drop, length-append, length-take, length-drop}
 use lib.Seq.{sets, take-append-seam}
 use borrow.Rule.Slice.PartMut.{putMid}
 use Rattle.endian.proofs.Runs.{run-left, run-part}
-use Rattle.monitor.specs.Answers.{refused, done, unlessRefused}
-use Rattle.monitor.specs.History.{found, orElse}
+use Rattle.rules.specs.Answers.{refused, done, unlessRefused}
+use Rattle.monitor.specs.Calls.{found, orElse}
 use Rattle.text.specs.declared.lines.Line.{Line}
 use Rattle.text.specs.Lines.{refusedLine, asLine}
 use Rattle.text.specs.Stored.{Stored}
 use Rattle.events.specs.Blocks.{recordLine, linesFrom, refusedLines, endLine}
-use Rattle.events.specs.Records.{Refusal, refusalAt, firstRefusedFrom, firstRefused, recordAt, recordRefusal}
-use Rattle.events.specs.Records.{wholeRecords, endRefusal}
+use Rattle.events.specs.Records.{recordRefusal}
+use Rattle.events.specs.Files.{Refusal, refusalAt, firstRefusedFrom, firstRefused, recordAt}
+use Rattle.events.specs.Files.{wholeRecords, endRefusal}
 use Rattle.events.proofs.files.Laws.{rest-record}
 
 -- a line that is copied to a part of the output

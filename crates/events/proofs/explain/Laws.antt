@@ -9,16 +9,17 @@ use lib.Dec.{eqb, leb}
 use lib.ListN.{length}
 use borrow.Author.Tests.{eq-eqb, lt-ltb, le-ltb}
 use Rattle.endian.specs.Bytes.{anySet}
-use Rattle.monitor.specs.declared.commands.Command.{Command}
+use Rattle.rules.specs.declared.commands.Command.{Command}
 use Rattle.monitor.specs.declared.record.Monitor.{Monitor}
-use Rattle.monitor.specs.History.{Call, settings, completion, elapsed, clock, powerUp, asked, completionIn, found, playFrom}
+use Rattle.monitor.specs.Calls.{Call, settings, completion, elapsed, clock, powerUp, found, playFrom, commandIn}
 use Rattle.monitor.specs.Reasons.{reasonOf}
 use Rattle.monitor.specs.Record.{newMonitor}
 use Rattle.events.specs.declared.explain.Question.{Question}
 use Rattle.events.specs.Explain.{reason, notACompletion, completionAt, recordSaid, bytesBefore, saidAt}
 use Rattle.events.specs.Explain.{recordNumber, numberSaid, questionOf, afterPart, partSaid}
 use Rattle.events.specs.Records.{recordKind, attribute, unnamed, settingsBytes, commandOf, completionOf, elapsedOf}
-use Rattle.events.specs.Records.{clockOf, callOfKind, callOf, isCompletion, recordAt, wholeRecords, historyOf}
+use Rattle.events.specs.Records.{clockOf, callOfKind, callOf, isCompletion}
+use Rattle.events.specs.Files.{recordAt, wholeRecords, historyOf}
 
 -- a number with too few bytes, and a whole one
 pub number-short : (n : ℕ) → n < 4 → some notACompletion ≡ numberSaid n
@@ -48,11 +49,11 @@ completion-said m r c e = rw e
 
 -- a record that is none
 abbrev inCall : Option Call → Option Command
-inCall o = found none (λ (c : Call). completionIn (asked c)) o
+inCall o = found none (λ (c : Call). commandIn c) o
 
 unless-set :
     (bytes : List ℕ) (c : Call) →
-    completionIn (asked c) ≡ none →
+    commandIn c ≡ none →
     inCall (cond (anySet bytes) none (some c)) ≡ none
 unless-set bytes c e = by (anySet bytes)
   where

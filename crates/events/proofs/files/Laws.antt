@@ -10,13 +10,13 @@ use borrow.Author.Tests.{eq-eqb, ne-eqb}
 use lib.ListN.{length, take, drop, length-take, length-drop}
 use lib.Seq.{drop-drop, take-all}
 use Rattle.monitor.specs.declared.record.Monitor.{Monitor}
-use Rattle.monitor.specs.Answers.{refused, done, unlessRefused}
-use Rattle.monitor.specs.History.{Call, settings, completion, elapsed, clock, powerUp, page, settingsBack, History}
-use Rattle.monitor.specs.History.{belowA, after, playFrom, refusalOf, found, andThen, orElse}
+use Rattle.rules.specs.Answers.{refused, done, unlessRefused}
+use Rattle.monitor.specs.Calls.{Call, settings, completion, elapsed, clock, powerUp, page, settingsBack, History}
+use Rattle.monitor.specs.Calls.{belowA, after, playFrom, refusalOf, found, andThen, orElse}
 use Rattle.monitor.specs.Record.{afterSettings, afterElapsed, afterClock}
-use Rattle.events.specs.Records.{endRefusal, callOf, recordRefusal, afterRecord, recordAt, wholeRecords}
-use Rattle.events.specs.Records.{callsBefore, historyOf}
-use Rattle.events.specs.Records.{Refusal, NoneRefused, refusalAt, firstRefusedFrom, firstRefused, acceptedRecords}
+use Rattle.events.specs.Records.{callOf, recordRefusal, afterRecord}
+use Rattle.events.specs.Files.{endRefusal, recordAt, wholeRecords, callsBefore, historyOf, Refusal, NoneRefused}
+use Rattle.events.specs.Files.{refusalAt, firstRefusedFrom, firstRefused, acceptedRecords}
 
 -- a refused record leaves the monitor untouched
 untouched-by : (c : Call) (m : Monitor) (n : ℕ) → refusalOf c ≡ some n → after c m ≡ m

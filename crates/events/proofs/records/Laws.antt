@@ -18,19 +18,19 @@ use types.Run.{OneOf}
 use Rattle.endian.specs.Bytes.{anySet}
 use Rattle.endian.specs.Loads.{number}
 use Rattle.endian.proofs.Numbers.{below, both-clear, first-set}
-use Rattle.monitor.proofs.Time.{alone}
-use Rattle.monitor.specs.declared.commands.Command.{Command}
-use Rattle.monitor.specs.declared.passing.Passed.{Passed}
+use Rattle.batch.proofs.Time.{time-alone}
+use Rattle.rules.specs.declared.commands.Command.{Command}
+use Rattle.batch.specs.declared.parts.Passed.{Passed}
 use Rattle.monitor.specs.declared.record.Monitor.{Monitor}
-use Rattle.monitor.specs.Answers.{CallAnswer, refused, done, notCounted, counted, ended, byKind, unlessRefused}
-use Rattle.monitor.specs.Commands.{counterOf}
-use Rattle.monitor.specs.History.{Call, settings, completion, elapsed, clock, powerUp, page, settingsBack}
-use Rattle.monitor.specs.History.{belowA, after, answerOf, playFrom, refusalOf, found, andThen}
-use Rattle.monitor.specs.Passing.{standing, passedBy, clockedBy, poweredBy, timeBy, withTime}
+use Rattle.rules.specs.Answers.{CallAnswer, refused, done, notCounted, counted, ended, byKind, unlessRefused}
+use Rattle.rules.specs.Commands.{counterOf}
+use Rattle.monitor.specs.Calls.{Call, settings, completion, elapsed, clock, powerUp, page, settingsBack}
+use Rattle.monitor.specs.Calls.{belowA, after, answerOf, playFrom, refusalOf, found, andThen}
+use Rattle.batch.specs.Passing.{standing, passedBy, clockedBy, poweredBy, timeBy, withTime}
 use Rattle.monitor.specs.Record.{settingsAnswer, completionAnswer, elapsedAnswer, clockAnswer}
-use Rattle.monitor.specs.Refusals.{settingsRefusal, elapsedRefusal, clockRefusal, pageRefusal, settingsBackRefusal}
+use Rattle.rules.specs.Refusals.{settingsRefusal, elapsedRefusal, clockRefusal, pageRefusal, settingsBackRefusal}
 use Rattle.monitor.specs.Report.{pageAnswer, settingsBackAnswer}
-use Rattle.monitor.specs.Tally.{codeOf}
+use Rattle.batch.specs.Tally.{codeOf}
 use Rattle.events.specs.Records.{recordKind, part, unnamed, settingsBytes, commandOf, elapsedOf, clockOf, callOfKind}
 use Rattle.events.specs.Records.{attribute, completionOf, callOf, isKind, isCompletion, isElapsed}
 use Rattle.events.specs.Records.{recordRefusal, recordAnswer, saysRecord, afterRecord, timedBy}
@@ -408,7 +408,7 @@ module _ (m : Monitor) where
           byCall o .alone ≡ true →
           (withTime m (byCall o) ≡ playFrom m (andThen o [])) × (found (some 11) refusalOf o ≡ none)
       by none e = absurd (true≢false (sym e))
-      by (some c) e = alone m c e
+      by (some c) e = time-alone m c e
 
   -- as the code tells the kinds apart
   module _ (r : List ℕ) (p : Passed) where

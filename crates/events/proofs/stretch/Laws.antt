@@ -8,19 +8,20 @@ use native.Mathlib.Omega.{arith}
 use borrow.Author.Tests.{eqb-true, eqb-false}
 use lib.Dec.{eqb}
 use lib.ListN.{getD, set, length, length-set}
-use Rattle.monitor.specs.declared.commands.Command.{Command}
-use Rattle.monitor.specs.declared.passing.Passed.{Passed}
+use Rattle.rules.specs.declared.commands.Command.{Command}
+use Rattle.batch.specs.declared.parts.Passed.{Passed}
 use Rattle.monitor.specs.declared.record.Monitor.{Monitor}
-use Rattle.monitor.specs.declared.tally.Active.{Active}
-use Rattle.monitor.specs.declared.tally.Stamped.{Stamped}
-use Rattle.monitor.specs.History.{Call, settings, completion, elapsed, clock, powerUp, page, settingsBack, belowA}
-use Rattle.monitor.specs.History.{playFrom, found}
-use Rattle.monitor.specs.Passing.{standing, passedBy, clockedBy, timeBy, withTime}
-use Rattle.monitor.specs.Tally.{codeOf, KindPlaces, reachedBelow, countPlace, AtMost, counterAtPlace, boundFor, boundAt}
-use Rattle.monitor.specs.Tally.{Bounds, stampedBy, withActive}
-use Rattle.monitor.proofs.Counts.{withCounts, counted-alone, stampedIn, stamped-alone, stamped-bounds}
-use Rattle.monitor.proofs.Counts.{at-most-set, kind-place-few, reached-few}
-use Rattle.events.specs.Records.{callOf, recordRefusal, afterRecord, timedBy, recordAt, wholeRecords, NoneRefused}
+use Rattle.batch.specs.declared.parts.Active.{Active}
+use Rattle.batch.specs.declared.parts.Stamped.{Stamped}
+use Rattle.monitor.specs.Calls.{Call, settings, completion, elapsed, clock, powerUp, page, settingsBack, belowA}
+use Rattle.monitor.specs.Calls.{playFrom, found}
+use Rattle.batch.specs.Passing.{standing, passedBy, clockedBy, timeBy, withTime}
+use Rattle.batch.specs.Tally.{codeOf, KindPlaces, reachedBelow, countPlace, AtMost, counterAtPlace, boundFor, boundAt}
+use Rattle.batch.specs.Tally.{Bounds, stampedBy, withActive}
+use Rattle.batch.specs.Claims.{withCounts, stampedIn}
+use Rattle.batch.proofs.Counts.{counts-alone, stamps-alone, bounds-follow, at-most-set, kind-place-few, reached-few}
+use Rattle.events.specs.Records.{callOf, recordRefusal, afterRecord, timedBy}
+use Rattle.events.specs.Files.{recordAt, wholeRecords, NoneRefused}
 use Rattle.events.proofs.records.Laws.{completion-accepted, timed-alone}
 use Rattle.events.proofs.files.Laws.{Replayed, one-more}
 
@@ -162,7 +163,7 @@ module _
           one-counted below =
               next _ monitor (at .in-force) (at .places) (at .bound) (at .sizes) more-room (completion-accepted r c call)
               (rw (call, count-is)
-              (counted-alone monitor a c place counts-there (λ (h : place < 15). rw (at .bound place h) at below)))
+              (counts-alone monitor a c place counts-there (λ (h : place < 15). rw (at .bound place h) at below)))
 
           -- it loads its counter's stamp, at the most
           pub one-stamped :
@@ -177,7 +178,7 @@ module _
           unfolding afterRecord playFrom boundAt boundFor
           one-stamped n l n-is l-is alone =
               next _ monitor (at .in-force) (at .places)
-              (stamped-bounds monitor a c place n l counts-there n-is l-is alone (at .bound) (at .sizes .0) (at .sizes .1)
+              (bounds-follow monitor a c place n l (counts-there, n-is, l-is, alone) (at .bound) (at .sizes .0) (at .sizes .1)
               (at .sizes .2)) (
                 length-set (a .bounds) place (l .bound) ∙ at .sizes .0,
                 length-set (a .stamps) n (l .stamp) ∙ at .sizes .1,
@@ -185,7 +186,7 @@ module _
               )
               more-room
               (completion-accepted r c call)
-              (rw (call, count-is) (stamped-alone monitor a c place n l counts-there n-is l-is alone))
+              (rw (call, count-is) (stamps-alone monitor a c place n l (counts-there, n-is, l-is, alone)))
 
       -- the clock and the timer alone
       pub time-went-on :

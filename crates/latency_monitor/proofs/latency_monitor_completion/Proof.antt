@@ -1,6 +1,6 @@
 -- `latency_monitor_completion`, by the walk of a function that stores what its rule hands back, here in each arm of a
 -- `match` on the answer.
-use Rattle.monitor.specs.Answers.{saysCompletion}
+use Rattle.rules.specs.Answers.{saysCompletion}
 use Rattle.monitor.specs.Record.{afterCompletion, completionAnswer}
 use Rattle.latency_monitor.proofs.PlainData.{passed}
 use Rattle.monitor.proofs.record.Monitor.completion.Symbol.{name as #rule}

@@ -1,5 +1,5 @@
 -- `latency_monitor_configure`, by the walk of a function that stores what its rule hands back.
-use Rattle.monitor.specs.Answers.{saysAnswer}
+use Rattle.rules.specs.Answers.{saysAnswer}
 use Rattle.monitor.specs.Record.{afterSettings, settingsAnswer}
 use Rattle.latency_monitor.proofs.PlainData.{passed-bytes, once}
 use Rattle.monitor.proofs.record.Monitor.configure.Symbol.{name as #rule}

@@ -1,7 +1,7 @@
 -- `latency_monitor_elapsed`, by the walk of a function that stores what its rule hands back, here in each arm of a
 -- `match` on the answer.
 use mir.Syntax.{w32}
-use Rattle.monitor.specs.Answers.{saysElapsed}
+use Rattle.rules.specs.Answers.{saysElapsed}
 use Rattle.monitor.specs.Record.{afterElapsed, elapsedAnswer}
 use Rattle.latency_monitor.proofs.PlainData.{plain-uint, passed}
 use Rattle.monitor.proofs.record.Monitor.elapsed.Symbol.{name as #rule}

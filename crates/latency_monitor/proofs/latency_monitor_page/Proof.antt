@@ -1,8 +1,5 @@
 -- `latency_monitor_page`, by the walk of a function that reads the record and writes a buffer.
-use mathlib.Core.Path.{_≡_}
 use lib.ListN.{length}
-use Rattle.monitor.specs.History.{History, play}
-use Rattle.monitor.specs.Claims.{pageByFacts}
 use Rattle.monitor.specs.Report.{afterPage, pageAnswer}
 use Rattle.monitor.proofs.record.Monitor.page.Symbol.{name as #rule}
 use Rattle.monitor.proofs.record.Monitor.page.Met as rule
@@ -19,7 +16,6 @@ pub latency-monitor-page-spec : {M : Type 1} → statement M
 unfolding code.routine
 latency-monitor-page-spec 𝓤 H 𝓜 𝓖 𝓡 =
     reads #rule #numbers afterPage (λ bytes. pageAnswer (length bytes))
-    (λ m bytes written. (h : History) → m ≡ play h → written ≡ pageByFacts h bytes)
     𝓤 H 𝓜 𝓖 𝓡 code.env #self (code.unfolded 𝓤 H 𝓜 𝓡)
     code.calls-monitor·record·Monitor·page (rule.met 𝓤 H 𝓜 𝓖 𝓡)
     code.calls-latency-monitor·answers·refusal (numbers.met 𝓤 H 𝓜 𝓖 𝓡)

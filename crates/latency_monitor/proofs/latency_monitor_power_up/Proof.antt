@@ -1,5 +1,5 @@
 -- `latency_monitor_power_up`, by the walk of a function that stores what its rule hands back.
-use Rattle.monitor.specs.Answers.{saysAnswer, done}
+use Rattle.rules.specs.Answers.{saysAnswer, done}
 use Rattle.monitor.specs.Record.{afterPowerUp}
 use Rattle.monitor.proofs.record.Monitor.power_up.Symbol.{name as #rule}
 use Rattle.monitor.proofs.record.Monitor.power_up.Met as rule

@@ -1,6 +1,6 @@
 -- `latency_monitor_read_page`, by the walk of a function that stores what its rule hands back.
 use Rattle.logpage.specs.Reader.{readingOf}
-use Rattle.monitor.specs.Answers.{saysAnswer}
+use Rattle.rules.specs.Answers.{saysAnswer}
 use Rattle.latency_monitor.specs.Answers.{asRefusal}
 use Rattle.latency_monitor.specs.Reading.{readAnswer}
 use Rattle.latency_monitor.proofs.PlainData.{passed-bytes, once}

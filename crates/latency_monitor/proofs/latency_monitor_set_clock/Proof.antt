@@ -1,6 +1,6 @@
 -- `latency_monitor_set_clock`, by the walk of a function that stores what its rule hands back.
 use mir.Syntax.{w64}
-use Rattle.monitor.specs.Answers.{saysAnswer}
+use Rattle.rules.specs.Answers.{saysAnswer}
 use Rattle.monitor.specs.Record.{afterClock, clockAnswer}
 use Rattle.latency_monitor.proofs.PlainData.{plain-uint, passed, once}
 use Rattle.monitor.proofs.record.Monitor.set_clock.Symbol.{name as #rule}

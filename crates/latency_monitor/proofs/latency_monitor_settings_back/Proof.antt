@@ -1,8 +1,5 @@
 -- `latency_monitor_settings_back`, by the walk of a function that reads the record and writes a buffer.
-use mathlib.Core.Path.{_≡_}
 use lib.ListN.{length}
-use Rattle.monitor.specs.History.{History, OfBytes, play}
-use Rattle.monitor.specs.Claims.{settingsByFacts}
 use Rattle.monitor.specs.Report.{afterSettingsBack, settingsBackAnswer}
 use Rattle.monitor.proofs.record.Monitor.settings_back.Symbol.{name as #rule}
 use Rattle.monitor.proofs.record.Monitor.settings_back.Met as rule
@@ -19,7 +16,6 @@ pub latency-monitor-settings-back-spec : {M : Type 1} → statement M
 unfolding code.routine
 latency-monitor-settings-back-spec 𝓤 H 𝓜 𝓖 𝓡 =
     reads #rule #numbers afterSettingsBack (λ bytes. settingsBackAnswer (length bytes))
-    (λ m bytes written. (h : History) → OfBytes h → m ≡ play h → written ≡ settingsByFacts h bytes)
     𝓤 H 𝓜 𝓖 𝓡 code.env #self (code.unfolded 𝓤 H 𝓜 𝓡)
     code.calls-monitor·record·Monitor·settings-back (rule.met 𝓤 H 𝓜 𝓖 𝓡)
     code.calls-latency-monitor·answers·refusal (numbers.met 𝓤 H 𝓜 𝓖 𝓡)

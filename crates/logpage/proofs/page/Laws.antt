@@ -8,15 +8,16 @@ use lib.ListN.{length, take, drop, length-append}
 use lib.Seq.{sets, length-sets}
 use Rattle.endian.specs.Stores.{lowFirst, fields}
 use Rattle.endian.proofs.Runs.{low-zeros, part-run, put-part, run-part, run-more, sets-whole}
-use Rattle.logpage.specs.Block.{zeros, blockBytes}
+use Rattle.window.specs.Block.{zeros, blockBytes}
 use Rattle.logpage.specs.Page.{headWidths, headValues, headBytes, windowsBytes, tailWidths, tailValues, tailBytes}
 use Rattle.logpage.specs.Page.{identityWidths, identityValues, pageBytes}
-use Rattle.logpage.specs.declared.DebugLog.{DebugLog}
-use Rattle.logpage.specs.declared.Settings.{Settings}
-use Rattle.logpage.specs.declared.Window.{Window}
+use Rattle.logpage.specs.declared.fields.DebugLog.{DebugLog}
+use Rattle.logpage.specs.declared.fields.Settings.{Settings}
+use Rattle.window.specs.declared.fields.Window.{Window}
 use Rattle.logpage.specs.declared.page.LogPage.{LogPage}
-use Rattle.logpage.proofs.Lengths.{length-block, length-head, length-head-fields, length-windows}
-use Rattle.logpage.proofs.Lengths.{length-tail-fields, length-identity, length-page}
+use Rattle.logpage.proofs.Lengths.{length-head, length-head-fields, length-windows, length-tail-fields}
+use Rattle.logpage.proofs.Lengths.{length-identity, length-page}
+use Rattle.window.proofs.Lengths.{length-block}
 
 -- after a run of stores, zeros in the part behind it
 zeros-more :

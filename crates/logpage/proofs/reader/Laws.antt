@@ -9,12 +9,12 @@ use lib.ListN.{length, getD, drop}
 use Rattle.endian.specs.Bytes.{anySet}
 use Rattle.endian.specs.Loads.{part, valuesAt}
 use Rattle.endian.proofs.Layouts.{are-bytes, bytes-take, bytes-drop, bounded}
-use Rattle.logpage.specs.BlockReader.{windowIn, blockKeeps}
+use Rattle.window.specs.BlockReader.{windowIn, blockKeeps}
 use Rattle.logpage.specs.Reader.{headIn, tailIn, Bounded, settingsFrom, debugFrom, fieldsIn}
 use Rattle.logpage.specs.Reader.{headFits, tailFits, pageKeeps, pageFits, identified, layoutRefusal, readRefusal}
-use Rattle.logpage.specs.declared.DebugLog.{DebugLog}
-use Rattle.logpage.specs.declared.Settings.{Settings}
-use Rattle.logpage.specs.declared.Window.{Window}
+use Rattle.logpage.specs.declared.fields.DebugLog.{DebugLog}
+use Rattle.logpage.specs.declared.fields.Settings.{Settings}
+use Rattle.window.specs.declared.fields.Window.{Window}
 
 -- the values of a part's fields have no more bytes than those
 pub part-bounded :

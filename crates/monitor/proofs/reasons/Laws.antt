@@ -9,20 +9,19 @@ use native.Mathlib.Omega.{arith}
 use borrow.Author.Tests.{ltb-true, ltb-false}
 use lib.Dec.{eqb, ltb}
 use lib.ListN.{getD}
-use Rattle.logpage.specs.Fields.{unset}
-use Rattle.logpage.specs.declared.Settings.{Settings}
-use Rattle.monitor.specs.declared.commands.Command.{Command}
+use Rattle.window.specs.Fields.{unset}
+use Rattle.logpage.specs.declared.fields.Settings.{Settings}
+use Rattle.rules.specs.declared.commands.Command.{Command}
 use Rattle.monitor.specs.declared.record.Monitor.{Monitor}
-use Rattle.monitor.specs.Answers.{loadedIn}
-use Rattle.monitor.specs.Commands.{kindOf, hasKind, bucketOf, counterAt, counterOf, counterNumber, reachesA}
-use Rattle.monitor.specs.Commands.{isBelowA, millisecondsOf}
-use Rattle.monitor.specs.Counting.{bit, larger, waited, loads}
+use Rattle.rules.specs.Answers.{loadedIn}
+use Rattle.rules.specs.Commands.{kindOf, hasKind, bucketOf, counterAt, counterOf, counterNumber, reachesA}
+use Rattle.rules.specs.Commands.{isBelowA, millisecondsOf}
+use Rattle.rules.specs.Counting.{bit, larger, waited, loads}
 use Rattle.monitor.specs.Reasons.{lowest, applying, reasonOf, stampReasonOf, IsLowest, AnswersLowest}
 use Rattle.monitor.specs.Reasons.{ZeroWhereLoaded}
 use Rattle.monitor.specs.Record.{sinceLoad, completionAnswer}
-use Rattle.monitor.specs.Timer.{inWindow}
-use Rattle.monitor.proofs.commands.Laws.{Becomes, slow, fast, kindless, disabled, becomes, at-no-kind}
-use Rattle.monitor.proofs.commands.Laws.{counter-enabled}
+use Rattle.rules.specs.Timer.{inWindow}
+use Rattle.rules.proofs.commands.Laws.{Becomes, slow, fast, kindless, disabled, becomes, at-no-kind, counter-enabled}
 
 -- r is the number of the first of a list that is true, counted from n on, or 0
 data First (l : List Bool) (n r : ℕ) : Type 0 where

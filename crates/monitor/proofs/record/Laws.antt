@@ -7,23 +7,34 @@ use Prim.Native.Nat.{ℕ, _≤_}
 use lib.Dec.{eqb}
 use lib.ListN.{set}
 use borrow.Author.Tests.{le-ltb}
-use Rattle.logpage.specs.Fields.{windowOf, emptyWindow, noDebugLog}
-use Rattle.logpage.specs.declared.DebugLog.{DebugLog}
-use Rattle.logpage.specs.declared.Settings.{Settings}
-use Rattle.monitor.specs.declared.commands.Command.{Command}
+use Rattle.logpage.specs.Fields.{noDebugLog}
+use Rattle.window.specs.Fields.{windowOf}
+use Rattle.window.specs.declared.fields.Window.{Window}
+use Rattle.logpage.specs.declared.fields.DebugLog.{DebugLog}
+use Rattle.logpage.specs.declared.fields.Settings.{Settings}
+use Rattle.rules.specs.declared.commands.Command.{Command}
 use Rattle.monitor.specs.declared.record.Monitor.{Monitor}
-use Rattle.monitor.specs.declared.timer.Tick.{Tick}
-use Rattle.monitor.specs.Answers.{done, refused, notCounted, counted, ended, unlessRefused}
-use Rattle.monitor.specs.Refusals.{settingsRefusal, elapsedRefusal}
-use Rattle.monitor.specs.Settings.{discard, decoded}
-use Rattle.monitor.specs.Counting.{bit, onceMoreAt, countedIn, triggers, debugLog}
-use Rattle.monitor.specs.Commands.{counterOf, isBelowA, millisecondsOf}
-use Rattle.monitor.specs.Timer.{grown, ticked, inWindow}
-use Rattle.monitor.proofs.Counters.{uncounted}
-use Rattle.monitor.proofs.commands.Laws.{below-a-kind}
-use Rattle.monitor.proofs.settings.Laws.{refused-by}
-use Rattle.monitor.specs.Record.{noLoads, noneBelowA, afterSettings, settingsAnswer, afterCompletion}
-use Rattle.monitor.specs.Record.{completionAnswer, afterElapsed, elapsedAnswer, loadsAt}
+use Rattle.rules.specs.declared.timer.Tick.{Tick}
+use Rattle.rules.specs.Answers.{done, refused, notCounted, counted, ended, unlessRefused}
+use Rattle.rules.specs.Refusals.{settingsRefusal, elapsedRefusal}
+use Rattle.rules.specs.Settings.{discard, decoded}
+use Rattle.rules.specs.Counting.{bit, onceMoreAt, countedIn, countedBelowA, triggers, debugLog}
+use Rattle.rules.specs.Commands.{counterOf, isBelowA, belowAOf, millisecondsOf}
+use Rattle.rules.specs.Timer.{grown, ticked, inWindow}
+use Rattle.rules.proofs.commands.Laws.{below-a-kind}
+use Rattle.rules.proofs.settings.Laws.{refused-by}
+use Rattle.monitor.specs.Record.{withSettings, withClock, withTimer, withActiveWindow, withDebugLog, restartedIf}
+use Rattle.monitor.specs.Record.{endedIf, afterSettings, settingsAnswer, afterCompletion}
+use Rattle.monitor.specs.Record.{completionAnswer, afterElapsed, elapsedAnswer, loadsAt, withBelowA}
+
+-- a completion without a counter, by the counts below threshold A that it leaves
+pub uncounted :
+    (m : Monitor) (c : Command) (counts : List ℕ) →
+    counterOf (m .settings) c ≡ none →
+    counts ≡ countedBelowA (belowAOf (m .settings) c) (m .«active_below_a») →
+    (withBelowA m counts ≡ afterCompletion m c) × (notCounted ≡ completionAnswer m c)
+unfolding afterCompletion completionAnswer
+uncounted m c counts e more = (rw (e, more), rw e)
 
 -- settings that are turned away
 pub settings-refused :
@@ -35,20 +46,7 @@ settings-refused m s n e = (rw (refused-by (settingsRefusal s) n e), e)
 
 -- settings that are accepted, by whether they enable
 abbrev pub configured : Monitor → Settings → DebugLog → Bool → Monitor
-configured m next debug on =
-    record {
-      settings = next;
-      timer = cond on 0 (m .timer);
-      «host_set» = m .«host_set»;
-      partial = cond on 0 (m .partial);
-      clock = m .clock;
-      loaded = cond on noLoads (m .loaded);
-      debug = debug;
-      «active_below_a» = cond on noneBelowA (m .«active_below_a»);
-      «static_below_a» = cond on noneBelowA (m .«static_below_a»);
-      «static_window» = cond on emptyWindow (m .«static_window»);
-      «active_window» = cond on emptyWindow (m .«active_window»);
-    }
+configured m next debug on = withDebugLog (withSettings (restartedIf on m) next) debug
 
 pub settings-accepted :
     (m : Monitor) (s : List ℕ) (next : Settings) (debug : DebugLog) (on : Bool) →
@@ -72,23 +70,15 @@ not-counted m c e reached = uncounted m c _ e (rw (below-a-kind (m .settings) c 
 -- what a counted completion writes, by whether it loads the stamp
 abbrev pub recorded : Monitor → (n ms : ℕ) (log : DebugLog) (counters : List ℕ) (load : Bool) → Monitor
 recorded m n ms log counters load =
-    record {
-      settings = m .settings;
-      timer = m .timer;
-      «host_set» = m .«host_set»;
-      partial = m .partial;
-      clock = m .clock;
-      loaded = cond load (set (m .loaded) n (inWindow (m .timer) (m .partial))) (m .loaded);
-      debug = log;
-      «active_below_a» = m .«active_below_a»;
-      «static_below_a» = m .«static_below_a»;
-      «static_window» = m .«static_window»;
-      «active_window» =
-          windowOf counters
-          (cond load (set (m .«active_window» .stamps) n (m .clock)) (m .«active_window» .stamps))
-          (cond load (set (m .«active_window» .latencies) n ms) (m .«active_window» .latencies))
-          (cond load (set (m .«active_window» .units) n (m .«host_set»)) (m .«active_window» .units));
-    }
+    let w : Window = m .«active_window» in
+    withDebugLog
+    (withActiveWindow m
+    (windowOf counters (cond load (set (w .stamps) n (m .clock)) (w .stamps))
+    (cond load (set (w .latencies) n ms) (w .latencies))
+    (cond load (set (w .units) n (m .«host_set»)) (w .units)))
+    (cond load (set (m .loaded) n (inWindow (m .timer) (m .partial))) (m .loaded))
+    (m .«active_below_a»))
+    log
 
 -- what is known once it is decided whether the stamp is loaded
 pub record Decided (m : Monitor) (c : Command) (n ms : ℕ) (log : DebugLog) (counters : List ℕ) (debug load : Bool) : Type 0 where
@@ -114,19 +104,7 @@ decide m c n ms log counters debug load chosen measured takes logs counts loadin
 -- elapsed time that is accepted, by whether the window ends
 abbrev pub moved : Monitor → ℕ → Tick → Bool → Monitor
 moved m clock t expired =
-    record {
-      settings = m .settings;
-      timer = t .timer;
-      «host_set» = m .«host_set»;
-      partial = t .partial;
-      clock = clock;
-      loaded = cond expired noLoads (m .loaded);
-      debug = m .debug;
-      «active_below_a» = cond expired noneBelowA (m .«active_below_a»);
-      «static_below_a» = cond expired (m .«active_below_a») (m .«static_below_a»);
-      «static_window» = cond expired (m .«active_window») (m .«static_window»);
-      «active_window» = cond expired emptyWindow (m .«active_window»);
-    }
+    withTimer (withClock (endedIf expired m) clock (m .«host_set»)) (t .timer) (t .partial)
 
 pub elapsed-accepted :
     (m : Monitor) (ms clock : ℕ) (t : Tick) (expired : Bool) →

@@ -9,8 +9,7 @@ use lib.ListN.{length, set, take, drop, getD, replicate, length-append, drop-of-
 use lib.Seq.{sets, set-comm, drop-cons, take-suc, take-all}
 use Rattle.endian.proofs.Runs.{sets-append}
 use Rattle.text.specs.declared.lines.Line.{Line}
-use Rattle.text.specs.Lines.{digits, widthWithin, decimal, spaced, refusedWord, refusedLine, numberLine}
-use Rattle.text.specs.Lines.{asLine}
+use Rattle.text.specs.Lines.{digits, widthWithin, decimal, spaced, refusedWord, refusedLine, numberLine, asLine}
 use Rattle.text.specs.Stored.{Stored}
 use Rattle.text.proofs.Storing.{same-room, stored-more, stored-next, stored-within, byte-stored, in-zeros}
 

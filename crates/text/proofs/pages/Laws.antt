@@ -5,8 +5,7 @@ use mathlib.Core.Bool.{true, false}
 use mathlib.Core.List.{List, [], _∷_, _++_}
 use native.Mathlib.Omega.{arith}
 use native.Mathlib.Numerals.{add-one}
-use lib.ListN.{length, set, take, drop, getD, replicate, length-append, length-take, length-drop}
-use lib.ListN.{drop-of-length-le}
+use lib.ListN.{length, set, take, drop, getD, replicate, length-append, length-take, length-drop, drop-of-length-le}
 use lib.Seq.{sets, drop-cons}
 use Rattle.endian.specs.Bytes.{anySet}
 use Rattle.endian.proofs.Runs.{run-more}

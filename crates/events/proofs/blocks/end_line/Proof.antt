@@ -1,6 +1,6 @@
 -- `end_line`: a refused line where bytes are left over, and none else.
 use mathlib.Core.Path.{sym, ap, _∙_}
-use Rattle.monitor.specs.Answers.{saysAnswer}
+use Rattle.rules.specs.Answers.{saysAnswer}
 use Rattle.events.proofs.blocks.Laws.{some-line, none-line}
 use borrow.Author.Needs.{needs}
 use Rattle.events.proofs.blocks.end_line.Statement.{statement}

@@ -4,9 +4,9 @@ use Prim.Native.Nat.{_+_, _-_, _*_}
 use native.Mathlib.Omega.{arith}
 use borrow.Author.Needs.{needs}
 use borrow.Rule.Slice.PartAt.{part-to-end}
-use Rattle.monitor.specs.History.{playFrom}
+use Rattle.monitor.specs.Calls.{playFrom}
 use Rattle.text.proofs.Storing.{same-room}
-use Rattle.events.specs.Records.{wholeRecords, callsBefore, saysHalt}
+use Rattle.events.specs.Files.{wholeRecords, callsBefore, saysHalt}
 use Rattle.events.proofs.files.Laws.{Replayed, skipped, replayed}
 use Rattle.events.proofs.blocks.Laws.{Told, told-none, told-line, told-all}
 use Rattle.events.proofs.blocks.replay_lines.Statement.{statement}

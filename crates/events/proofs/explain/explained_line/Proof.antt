@@ -2,7 +2,7 @@
 use mathlib.Core.Path.{_≡_, sym, ap, _∙_}
 use borrow.Author.Needs.{needs}
 use Rattle.text.specs.Lines.{asLine}
-use Rattle.events.specs.declared.explain.Explained.{Explained}
+use Rattle.events.specs.declared.answers.Explained.{Explained}
 use Rattle.events.specs.Explain.{saysExplained, atEnd, saidLine}
 use Rattle.events.proofs.explain.explained_line.Statement.{statement}
 use Rattle.events.proofs.explain.explained_line.Tie as tie

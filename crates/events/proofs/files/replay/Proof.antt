@@ -4,8 +4,8 @@ use Prim.Native.Nat.{_+_, _-_, _*_}
 use native.Mathlib.Omega.{arith}
 use borrow.Author.Needs.{needs}
 use borrow.Rule.Slice.PartAt.{part-to-end}
-use Rattle.monitor.specs.History.{playFrom}
-use Rattle.events.specs.Records.{wholeRecords, callsBefore, saysHalt}
+use Rattle.monitor.specs.Calls.{playFrom}
+use Rattle.events.specs.Files.{wholeRecords, callsBefore, saysHalt}
 use Rattle.events.proofs.files.Laws.{Replayed, skipped, replayed}
 use Rattle.events.proofs.files.replay.Statement.{statement}
 use Rattle.events.proofs.files.replay.Tie as tie

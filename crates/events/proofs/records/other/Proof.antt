@@ -1,6 +1,6 @@
 -- `other`: each kind with its unnamed bytes zero, and with one of them set; no kind.
 use mathlib.Core.Path.{refl, sym, _∙_}
-use Rattle.monitor.specs.History.{powerUp}
+use Rattle.monitor.specs.Calls.{powerUp}
 use Rattle.monitor.specs.Record.{settingsAnswer, clockAnswer}
 use Rattle.events.specs.Records.{callOfKind}
 use Rattle.events.proofs.records.Laws.{stands-for, stands-for-none, known-call, no-call, clock-call}

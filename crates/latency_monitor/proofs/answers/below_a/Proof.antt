@@ -18,7 +18,7 @@ array-read-t13 : tie.Need-array-read-t13
 array-read-t13 c = search needs
 
 returns : tie.Need-returns
-returns c = ap asBelowA (c .below-a .ensures .0)
+returns c = ap asBelowA (c .below-a .ensures)
 
 pub below-a-spec : {M : Type 1} → statement M
 below-a-spec =

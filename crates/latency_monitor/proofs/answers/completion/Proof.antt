@@ -1,8 +1,8 @@
 -- `answers::completion`: each case of the answer gives the numbers that it says.
 use mathlib.Core.Path.{sym, ap}
 use borrow.Author.Needs.{needs}
-use Rattle.monitor.specs.Answers.{saysCompletion}
-use Rattle.monitor.specs.declared.answers.CompletionAnswer.{CompletionAnswer}
+use Rattle.rules.specs.Answers.{saysCompletion}
+use Rattle.rules.specs.declared.answers.CompletionAnswer.{CompletionAnswer}
 use Rattle.latency_monitor.specs.declared.answers.PlainCompletionAnswer.{PlainCompletionAnswer}
 use Rattle.latency_monitor.specs.Answers.{asCompletion}
 use Rattle.latency_monitor.proofs.answers.completion.Statement.{statement}

@@ -1,8 +1,8 @@
 -- `answers::elapsed`: each case of the answer gives the numbers that it says.
 use mathlib.Core.Path.{sym, ap}
 use borrow.Author.Needs.{needs}
-use Rattle.monitor.specs.Answers.{saysElapsed}
-use Rattle.monitor.specs.declared.answers.ElapsedAnswer.{ElapsedAnswer}
+use Rattle.rules.specs.Answers.{saysElapsed}
+use Rattle.rules.specs.declared.answers.ElapsedAnswer.{ElapsedAnswer}
 use Rattle.latency_monitor.specs.declared.answers.PlainElapsedAnswer.{PlainElapsedAnswer}
 use Rattle.latency_monitor.specs.Answers.{asElapsed}
 use Rattle.latency_monitor.proofs.answers.elapsed.Statement.{statement}

@@ -4,7 +4,7 @@ use borrow.Author.Needs.{needs}
 use Rattle.logpage.specs.Answers.{refusalIn}
 use Rattle.logpage.specs.declared.answers.Answer.{Answer}
 use Rattle.logpage.specs.declared.answers.Answer.the-variants.{Done, Refused}
-use Rattle.monitor.specs.Answers.{done, unlessRefused, saysAnswer}
+use Rattle.rules.specs.Answers.{done, unlessRefused, saysAnswer}
 use Rattle.latency_monitor.specs.Reading.{readAnswer}
 use Rattle.latency_monitor.proofs.reading.read_into.Statement.{statement}
 use Rattle.latency_monitor.proofs.reading.read_into.Tie as tie

@@ -2,7 +2,7 @@
 use native.Mathlib.Omega.{arith}
 use borrow.Author.Tests.{eq-eqb, ne-eqb}
 use lib.Count.{trailing-le}
-use Rattle.logpage.specs.Fields.{unset}
+use Rattle.window.specs.Fields.{unset}
 use Rattle.logpage.specs.Reader.{debugCounter}
 use Rattle.logpage.proofs.reader.debug_counter.Statement.{statement}
 use Rattle.logpage.proofs.reader.debug_counter.Tie as tie

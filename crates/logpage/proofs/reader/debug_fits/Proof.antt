@@ -1,6 +1,6 @@
 -- `debug_fits`, by whether a debug log is held.
 use borrow.Author.Tests.{eq-eqb, ne-eqb}
-use Rattle.logpage.specs.Fields.{unset}
+use Rattle.window.specs.Fields.{unset}
 use Rattle.logpage.specs.Reader.{debugFits}
 use borrow.Author.Needs.{needs}
 use Rattle.logpage.proofs.reader.debug_fits.Statement.{statement}

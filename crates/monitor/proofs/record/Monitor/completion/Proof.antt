@@ -1,9 +1,9 @@
 -- `Monitor::completion`: below threshold A; counted with the stamp loaded; counted with it kept; not counted.
 use mathlib.Core.Path.{_≡_, sym, _∙_}
 use mathlib.Core.Bool.{Bool, true, false}
-use Rattle.monitor.proofs.Counters.{is-counter, no-counter, uncounted}
-use Rattle.monitor.proofs.commands.Laws.{fast-uncounted}
-use Rattle.monitor.proofs.record.Laws.{not-counted, Decided, decide}
+use Rattle.rules.proofs.Counters.{is-counter, no-counter}
+use Rattle.rules.proofs.commands.Laws.{fast-uncounted}
+use Rattle.monitor.proofs.record.Laws.{uncounted, not-counted, Decided, decide}
 use borrow.Author.Needs.{needs}
 use Rattle.monitor.proofs.record.Monitor.completion.Statement.{statement}
 use Rattle.monitor.proofs.record.Monitor.completion.Tie as tie

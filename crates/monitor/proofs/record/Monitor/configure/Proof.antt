@@ -2,10 +2,10 @@
 use mathlib.Core.Path.{_≡_, sym, ap, _∙_}
 use mathlib.Core.Option.{none}
 use native.Mathlib.Omega.{arith}
-use Rattle.monitor.specs.Answers.{saysAnswer}
-use Rattle.monitor.specs.Refusals.{settingsRefusal}
-use Rattle.monitor.proofs.refusals.Laws.{accepted as accepted-settings}
-use Rattle.monitor.proofs.settings.Laws.{not-refused}
+use Rattle.rules.specs.Answers.{saysAnswer}
+use Rattle.rules.specs.Refusals.{settingsRefusal}
+use Rattle.rules.proofs.refusals.Laws.{accepted as accepted-settings}
+use Rattle.rules.proofs.settings.Laws.{not-refused}
 use Rattle.monitor.proofs.record.Laws.{settings-refused, settings-accepted}
 use borrow.Author.Needs.{needs}
 use Rattle.monitor.proofs.record.Monitor.configure.Statement.{statement}

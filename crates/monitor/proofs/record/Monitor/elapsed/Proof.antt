@@ -1,6 +1,6 @@
 -- `Monitor::elapsed`: the window ends; it goes on; turned away by row 7.
 use borrow.Author.Tests.{lt-ltb}
-use Rattle.monitor.specs.Refusals.{elapsedRefusal}
+use Rattle.rules.specs.Refusals.{elapsedRefusal}
 use Rattle.monitor.proofs.record.Laws.{elapsed-accepted}
 use Rattle.monitor.specs.Record.{afterElapsed, elapsedAnswer}
 use borrow.Author.Needs.{needs}

@@ -1,6 +1,6 @@
 -- `Monitor::loads`: unset; mode largest; mode first.
 use borrow.Author.Tests.{eq-eqb, ne-eqb}
-use Rattle.monitor.specs.Counting.{loads}
+use Rattle.rules.specs.Counting.{loads}
 use borrow.Author.Needs.{needs}
 use Rattle.monitor.proofs.record.Monitor.loads.Statement.{statement}
 use Rattle.monitor.proofs.record.Monitor.loads.Tie as tie

@@ -3,7 +3,7 @@ use mathlib.Core.Path.{sym, _∙_}
 use Prim.Native.Nat.{_<_}
 use borrow.Author.Needs.{needs}
 use borrow.Author.Tests.{not-true, not-false}
-use Rattle.monitor.proofs.Counters.{is-counter}
+use Rattle.rules.proofs.Counters.{is-counter}
 use Rattle.monitor.proofs.reasons.Laws.{reason-disabled, reason-no-kind, reason-below-a, reason-of-counter}
 use Rattle.monitor.proofs.reasons.Laws.{has-counter}
 use Rattle.monitor.proofs.record.Monitor.reason.Statement.{statement}

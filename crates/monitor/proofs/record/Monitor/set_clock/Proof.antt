@@ -1,7 +1,7 @@
 -- `Monitor::set_clock`: accepted, and turned away by row 8.
 use native.Mathlib.Omega.{arith}
 use borrow.Author.Tests.{lt-ltb, le-ltb}
-use Rattle.monitor.specs.Refusals.{clockRefusal}
+use Rattle.rules.specs.Refusals.{clockRefusal}
 use Rattle.monitor.specs.Record.{afterClock, clockAnswer}
 use Rattle.monitor.proofs.record.Monitor.set_clock.Statement.{statement}
 use Rattle.monitor.proofs.record.Monitor.set_clock.Tie as tie

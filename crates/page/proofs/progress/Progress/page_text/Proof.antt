@@ -1,5 +1,5 @@
 -- `Progress::page_text`: the page is written into a buffer of its length.
-use Rattle.monitor.specs.Refusals.{pageRefusal}
+use Rattle.rules.specs.Refusals.{pageRefusal}
 use Rattle.monitor.specs.Report.{afterPage}
 use borrow.Author.Needs.{needs}
 use Rattle.page.proofs.progress.Progress.page_text.Statement.{statement}

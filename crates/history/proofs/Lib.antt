@@ -1,0 +1,14 @@
+pub mod Lists
+pub mod Windows
+pub mod Facts
+pub mod Completions
+pub mod Elapsed
+pub mod Play
+pub mod Bounds
+pub mod Given
+pub mod Pages
+pub mod BelowA
+pub mod Deallocates
+pub mod ReadBack
+pub mod Edges
+pub mod Order

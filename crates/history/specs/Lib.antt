@@ -1,0 +1,5 @@
+pub mod Effects
+pub mod Facts
+pub mod Edges
+pub mod Claims
+pub mod Order

@@ -1,0 +1,1 @@
+// What is claimed of every history of the monitor's calls: definitions and proofs, and no code.

@@ -1,0 +1,5 @@
+// One of the record's windows.
+pub enum WindowChoice {
+    Active,
+    Static,
+}

@@ -1,0 +1,5 @@
+pub mod Lists
+pub mod Table
+pub mod Lengths
+pub mod Written
+pub mod Accepted
