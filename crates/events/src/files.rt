@@ -7,7 +7,7 @@ ghost use Rattle.events.specs.Files.{callsBefore, historyOf, firstRefuse
 ghost use Rattle.events.specs.Files.{acceptedRecords, refusalAt, saysHalt, endRefusal};
 use crate::answers::Halt;
 use crate::answers::RecordAnswer;
-use crate::apply;
+use crate::calls;
 use crate::records;
 use crate::stretch;
 use monitor::Answer;
@@ -37,7 +37,7 @@ pub fn run(m: Monitor, s: &[u8]) -> Stop
     while i < s.len() / records::RECORD {
         let from = records::RECORD * i;
         let to = from + records::RECORD;
-        let o = apply::apply(monitor, &s[from..to]);
+        let o = calls::apply(monitor, &s[from..to]);
         let answer = o.answer;
         if let RecordAnswer::Refused(number) = answer {
             return refused_at(o.next, i, number);

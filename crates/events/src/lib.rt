@@ -1,7 +1,7 @@
 // Event files: records of 16 bytes, the calls that they stand for, and what these make of a monitor.
 mod answers;
-mod apply;
 mod blocks;
+mod calls;
 mod explain;
 mod files;
 mod records;
@@ -10,11 +10,11 @@ mod stretch;
 pub use answers::Explained;
 pub use answers::Halt;
 pub use answers::RecordAnswer;
-pub use apply::RecordOutcome;
-pub use apply::apply;
 pub use blocks::Block;
 pub use blocks::end_line;
 pub use blocks::replay_block;
+pub use calls::RecordOutcome;
+pub use calls::apply;
 pub use explain::Explanation;
 pub use explain::Question;
 pub use explain::explained_line;

@@ -2,8 +2,8 @@
 use mathlib.Core.Path.{refl, sym, _∙_}
 use Rattle.events.proofs.records.Laws.{stands-for, stands-for-none, not-sixteen, completion-call}
 use borrow.Author.Needs.{needs}
-use Rattle.events.proofs.apply.apply.Statement.{statement}
-use Rattle.events.proofs.apply.apply.Tie as tie
+use Rattle.events.proofs.calls.apply.Statement.{statement}
+use Rattle.events.proofs.calls.apply.Tie as tie
 
 is-completion-requires : tie.Need-is-completion-requires
 is-completion-requires c κs = search needs

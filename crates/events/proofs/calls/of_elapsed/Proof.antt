@@ -2,8 +2,8 @@
 use mathlib.Core.Path.{sym, ap}
 use Rattle.rules.specs.Answers.{saysElapsed}
 use borrow.Author.Needs.{needs}
-use Rattle.events.proofs.apply.of_elapsed.Statement.{statement}
-use Rattle.events.proofs.apply.of_elapsed.Tie as tie
+use Rattle.events.proofs.calls.of_elapsed.Statement.{statement}
+use Rattle.events.proofs.calls.of_elapsed.Tie as tie
 
 enum-known-a : tie.Need-enum-known-a
 enum-known-a c = search needs

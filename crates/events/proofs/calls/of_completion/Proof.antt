@@ -2,8 +2,8 @@
 use mathlib.Core.Path.{sym, ap}
 use Rattle.rules.specs.Answers.{saysCompletion}
 use borrow.Author.Needs.{needs}
-use Rattle.events.proofs.apply.of_completion.Statement.{statement}
-use Rattle.events.proofs.apply.of_completion.Tie as tie
+use Rattle.events.proofs.calls.of_completion.Statement.{statement}
+use Rattle.events.proofs.calls.of_completion.Tie as tie
 
 enum-told : tie.Need-enum-told
 enum-told c = search needs
