@@ -11,11 +11,11 @@ use window::UNSET;
 
 pub const COUNTER_TOP: u32 = 4_294_967_295;
 
-// Whether counter n's bit is set.
+// Whether counter n's bit is set. No branch: where n is known to be small, both tests of it go.
 pub fn bit(mask: u16, n: usize) -> bool
     ensures { λ r. ⌜ r ≡ bit mask n ⌝ }
 {
-    if n < 16 { (mask >> n) % 2 == 1 } else { false }
+    (n < 16) & ((mask >> (n % 16)) % 2 == 1)
 }
 
 // The mask that has counter n's bit alone.

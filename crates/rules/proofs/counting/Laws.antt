@@ -2,8 +2,8 @@
 use mathlib.Core.Path.{_≡_, refl, sym, _∙_}
 use mathlib.Core.Bool.{Bool, true, false, cond, _&&_}
 use mathlib.Core.List.{List}
-use Prim.Native.Nat.{ℕ, _+_, _/_, _^_, _≤_, _<_}
-use native.Mathlib.Nat.{div-eq-of-lt, lt-of-lt-of-le, pow-le-pow-right}
+use Prim.Native.Nat.{ℕ, _+_, _/_, _%_, _^_, _≤_, _<_}
+use native.Mathlib.Nat.{div-eq-of-lt, pow-le-pow-right}
 use native.Mathlib.Omega.{arith}
 use borrow.Author.Tests.{lt-ltb, le-ltb, eqb-true, eqb-false, ltb-true, ltb-false}
 use lib.Dec.{eqb, ltb}
@@ -82,8 +82,15 @@ module _ (f : ℕ → ℕ) (l : List ℕ) (n : ℕ) where
           rw (same, at, lt-ltb n (n + 1) (omega arith))
       by false h = set-getD m i 0 ∙ other (ltb n i) refl (eqb-false i n h)
 
--- a mask of sixteen bits has none set from the sixteenth on
-pub past-the-mask : (mask n : ℕ) → mask < 65536 → 16 ≤ n → false ≡ bit mask n
-past-the-mask mask n fits far =
-    let none : mask / 2 ^ n ≡ 0 = div-eq-of-lt (lt-of-lt-of-le fits (pow-le-pow-right (omega arith) far)) in
-    rw none
+-- a bit of a mask of sixteen, whose place is taken within them
+pub bit-within : (mask n : ℕ) → mask < 65536 → (ltb n 16 && eqb (mask / 2 ^ (n % 16) % 2) 1) ≡ bit mask n
+bit-within mask n fits = by (ltb n 16) refl
+  where
+    by : (t : Bool) → ltb n 16 ≡ t → (t && eqb (mask / 2 ^ (n % 16) % 2) 1) ≡ bit mask n
+    by true h =
+        let place : n % 16 ≡ n = omega (arith, ltb-true n 16 h) in
+        rw place
+    by false h =
+        let far : 65536 ≤ 2 ^ n = pow-le-pow-right (omega arith) (ltb-false n 16 h) in
+        let none : mask / 2 ^ n ≡ 0 = div-eq-of-lt (omega (arith, far)) in
+        rw none

@@ -1,6 +1,6 @@
--- `bit`: one of the sixteen bits, and none of them.
+-- `bit`: within the mask's sixteen bits.
 use borrow.Author.Needs.{needs}
-use Rattle.rules.proofs.counting.Laws.{past-the-mask}
+use Rattle.rules.proofs.counting.Laws.{bit-within}
 use Rattle.rules.proofs.counting.bit.Statement.{statement}
 use Rattle.rules.proofs.counting.bit.Tie as tie
 
@@ -11,10 +11,7 @@ shr-result : tie.Need-shr-result
 shr-result c = search needs
 
 returns : tie.Need-returns
-returns c = search needs
-
-returns-2 : tie.Need-returns-2
-returns-2 c = past-the-mask (c .before .args .mask) (c .before .args .n) (search needs) (search needs)
+returns c = bit-within (c .args .mask) (c .args .n) (search needs)
 
 pub bit-spec : {M : Type 1} → statement M
-bit-spec = tie.close (tie.spec cast-result shr-result returns returns-2)
+bit-spec = tie.close (tie.spec cast-result shr-result returns)
