@@ -6,7 +6,8 @@ use Rattle.batch.specs.declared.parts.Passed.{Passed}
 use Rattle.monitor.specs.declared.record.Monitor.{Monitor}
 use Rattle.rules.specs.declared.timer.Tick.{Tick}
 use Rattle.monitor.specs.Calls.{Call, settings, completion, elapsed, clock, powerUp, page, settingsBack, belowA}
-use Rattle.monitor.specs.Record.{withClock, withTimer, untouchedIf, tickedBy}
+use Rattle.monitor.specs.Fields.{withClock, withTimer}
+use Rattle.monitor.specs.Record.{untouchedIf, tickedBy}
 use Rattle.rules.specs.Refusals.{elapsedRefusal, clockRefusal}
 use Rattle.rules.specs.Timer.{grown}
 

@@ -15,7 +15,8 @@ use Rattle.batch.specs.declared.parts.Active.{Active}
 use Rattle.batch.specs.declared.parts.Stamped.{Stamped}
 use Rattle.rules.specs.Commands.{kindOf, kindNumber, reaches, millisecondsOf, latencyAbove}
 use Rattle.rules.specs.Counting.{held, bit, loads}
-use Rattle.monitor.specs.Record.{withActiveWindow, triggersAt}
+use Rattle.monitor.specs.Fields.{withActiveWindow}
+use Rattle.monitor.specs.Record.{triggersAt}
 use Rattle.rules.specs.Refusals.{unordered}
 use Rattle.rules.specs.Timer.{inWindow}
 

@@ -25,7 +25,8 @@ use Rattle.history.specs.Facts.{isFast, loadsAfter, orLoad, lastLoad, st
 use Rattle.history.specs.Facts.{discardIn, triggered, orEarliest, earliest, logOf, debugAt}
 use Rattle.monitor.specs.Calls.{found, andThen}
 use Rattle.history.specs.Effects.{completed, Past, latest, since}
-use Rattle.monitor.specs.Record.{withActiveWindow, withStaticWindow, withDebugLog, afterCompletion}
+use Rattle.monitor.specs.Fields.{withActiveWindow, withStaticWindow, withDebugLog}
+use Rattle.monitor.specs.Record.{afterCompletion}
 use Rattle.rules.specs.Timer.{inWindow}
 use Rattle.rules.proofs.commands.Laws.{Becomes, slow, fast, kindless, disabled, becomes}
 use Rattle.monitor.proofs.Laws.{uncounted, decide}

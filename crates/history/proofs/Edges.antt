@@ -17,7 +17,8 @@ use Rattle.rules.specs.Commands.{kindOf, highest, bucketOf, counterOf, millisec
 use Rattle.rules.specs.Counting.{loads, countedIn, triggers}
 use Rattle.history.specs.Edges.{enabledWith, read, usual, elapsedAnswers, bucket, measures, readAnswer, Holds}
 use Rattle.history.specs.Edges.{EdgesHold}
-use Rattle.monitor.specs.Record.{newMonitor, withSettings, afterSettings, afterCompletion}
+use Rattle.monitor.specs.Fields.{withSettings}
+use Rattle.monitor.specs.Record.{newMonitor, afterSettings, afterCompletion}
 use Rattle.monitor.specs.Record.{completionAnswer, afterElapsed, elapsedAnswer}
 use Rattle.rules.specs.Refusals.{settingsRefusal, fieldRefusal, elapsedRefusal}
 use Rattle.rules.specs.Settings.{decoded, encoded}

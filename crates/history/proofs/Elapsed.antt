@@ -19,8 +19,8 @@ use Rattle.history.specs.Facts.{countOf, lastLoad, stampOf, latencyOf, u
 use Rattle.history.specs.Facts.{isFast, ofKindBelowA, belowACounts}
 use Rattle.history.specs.Effects.{passed, Past, latest, since}
 use Rattle.rules.specs.Answers.{ended}
-use Rattle.monitor.specs.Record.{noLoads, noneBelowA, withClock, withTimer, withActiveWindow, withStaticWindow}
-use Rattle.monitor.specs.Record.{afterElapsed, elapsedAnswer}
+use Rattle.monitor.specs.Fields.{withClock, withTimer, withActiveWindow, withStaticWindow}
+use Rattle.monitor.specs.Record.{noLoads, noneBelowA, afterElapsed, elapsedAnswer}
 use Rattle.rules.specs.Timer.{grown, tick, ticked}
 use Rattle.monitor.proofs.Laws.{moved, elapsed-accepted}
 use Rattle.history.proofs.Facts.{Good, Fine, FineAt, fine, fine-counted, span, enabled-threshold}

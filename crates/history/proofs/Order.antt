@@ -28,7 +28,8 @@ use Rattle.monitor.specs.Calls.{belowA, after, playFrom}
 use Rattle.history.specs.Effects.{pastOf}
 use Rattle.history.specs.Order.{LargestWithoutMinimum, afterCompletions, withoutDebugLog, InAnyOrder}
 use Rattle.history.specs.Order.{InAnyOrderAfterHistory, DebugLogLeftOut}
-use Rattle.monitor.specs.Record.{withActiveWindow, withDebugLog, untouchedIf, afterSettings, afterCompletion}
+use Rattle.monitor.specs.Fields.{withActiveWindow, withDebugLog}
+use Rattle.monitor.specs.Record.{untouchedIf, afterSettings, afterCompletion}
 use Rattle.monitor.specs.Record.{afterElapsed, afterClock, afterPowerUp, sinceLoad, loadsAt}
 use Rattle.rules.specs.Refusals.{settingsRefusal, elapsedRefusal, clockRefusal}
 use Rattle.rules.specs.Timer.{inWindow}

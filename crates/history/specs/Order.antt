@@ -10,7 +10,7 @@ use Rattle.rules.specs.declared.commands.Command.{Command}
 use Rattle.monitor.specs.declared.record.Monitor.{Monitor}
 use Rattle.rules.specs.Counting.{bit}
 use Rattle.history.specs.Facts.{inForce}
-use Rattle.monitor.specs.Record.{withDebugLog}
+use Rattle.monitor.specs.Fields.{withDebugLog}
 use Rattle.monitor.specs.Calls.{completion, History, playFrom, play}
 use Rattle.history.specs.Effects.{pastOf}
 

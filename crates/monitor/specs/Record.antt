@@ -7,9 +7,6 @@ use lib.Dec.{eqb}
 use lib.ListN.{getD, set, replicate}
 use Rattle.logpage.specs.Fields.{noSettings, noDebugLog}
 use Rattle.window.specs.Fields.{emptyWindow}
-use Rattle.window.specs.declared.fields.Window.{Window}
-use Rattle.logpage.specs.declared.fields.DebugLog.{DebugLog}
-use Rattle.logpage.specs.declared.fields.Settings.{Settings}
 use Rattle.rules.specs.declared.commands.Command.{Command}
 use Rattle.monitor.specs.declared.record.Monitor.{Monitor}
 use Rattle.rules.specs.declared.timer.Tick.{Tick}
@@ -19,6 +16,8 @@ use Rattle.rules.specs.Refusals.{settingsRefusal, elapsedRefusal, clockRefusal}
 use Rattle.rules.specs.Settings.{discard, decoded}
 use Rattle.rules.specs.Counting.{bit, loads, countedIn, countedBelowA, triggers, debugLog}
 use Rattle.rules.specs.Timer.{grown, ticked, inWindow}
+use Rattle.monitor.specs.Fields.{withSettings, withClock, withTimer, withActiveWindow, withStaticWindow}
+use Rattle.monitor.specs.Fields.{withDebugLog}
 
 -- no stamp was loaded in the active window
 abbrev pub noLoads : List ℕ
@@ -45,104 +44,6 @@ newMonitor =
       «static_window» = emptyWindow;
       «static_below_a» = noneBelowA;
       debug = noDebugLog;
-    }
-
--- the record with another part, all else as it was: the settings; the clock; the timer; the active window, the times of
--- its loads and its counts below threshold A; the static window and its counts below threshold A; the debug log
-abbrev pub withSettings : Monitor → Settings → Monitor
-withSettings m settings =
-    record {
-      settings = settings;
-      clock = m .clock;
-      «host_set» = m .«host_set»;
-      timer = m .timer;
-      partial = m .partial;
-      «active_window» = m .«active_window»;
-      loaded = m .loaded;
-      «active_below_a» = m .«active_below_a»;
-      «static_window» = m .«static_window»;
-      «static_below_a» = m .«static_below_a»;
-      debug = m .debug;
-    }
-
-abbrev pub withClock : Monitor → (clock : ℕ) (hostSet : Bool) → Monitor
-withClock m clock hostSet =
-    record {
-      settings = m .settings;
-      clock = clock;
-      «host_set» = hostSet;
-      timer = m .timer;
-      partial = m .partial;
-      «active_window» = m .«active_window»;
-      loaded = m .loaded;
-      «active_below_a» = m .«active_below_a»;
-      «static_window» = m .«static_window»;
-      «static_below_a» = m .«static_below_a»;
-      debug = m .debug;
-    }
-
-abbrev pub withTimer : Monitor → (timer partial : ℕ) → Monitor
-withTimer m timer partial =
-    record {
-      settings = m .settings;
-      clock = m .clock;
-      «host_set» = m .«host_set»;
-      timer = timer;
-      partial = partial;
-      «active_window» = m .«active_window»;
-      loaded = m .loaded;
-      «active_below_a» = m .«active_below_a»;
-      «static_window» = m .«static_window»;
-      «static_below_a» = m .«static_below_a»;
-      debug = m .debug;
-    }
-
-abbrev pub withActiveWindow : Monitor → Window → (loaded belowA : List ℕ) → Monitor
-withActiveWindow m window loaded belowA =
-    record {
-      settings = m .settings;
-      clock = m .clock;
-      «host_set» = m .«host_set»;
-      timer = m .timer;
-      partial = m .partial;
-      «active_window» = window;
-      loaded = loaded;
-      «active_below_a» = belowA;
-      «static_window» = m .«static_window»;
-      «static_below_a» = m .«static_below_a»;
-      debug = m .debug;
-    }
-
-abbrev pub withStaticWindow : Monitor → Window → (belowA : List ℕ) → Monitor
-withStaticWindow m window belowA =
-    record {
-      settings = m .settings;
-      clock = m .clock;
-      «host_set» = m .«host_set»;
-      timer = m .timer;
-      partial = m .partial;
-      «active_window» = m .«active_window»;
-      loaded = m .loaded;
-      «active_below_a» = m .«active_below_a»;
-      «static_window» = window;
-      «static_below_a» = belowA;
-      debug = m .debug;
-    }
-
-abbrev pub withDebugLog : Monitor → DebugLog → Monitor
-withDebugLog m debug =
-    record {
-      settings = m .settings;
-      clock = m .clock;
-      «host_set» = m .«host_set»;
-      timer = m .timer;
-      partial = m .partial;
-      «active_window» = m .«active_window»;
-      loaded = m .loaded;
-      «active_below_a» = m .«active_below_a»;
-      «static_window» = m .«static_window»;
-      «static_below_a» = m .«static_below_a»;
-      debug = debug;
     }
 
 -- what a call leaves of the record, or of a lent buffer: the old content if it is refused, else the next

@@ -23,8 +23,8 @@ use Rattle.rules.specs.Commands.{counterOf, isBelowA, belowAOf, millisecondsOf}
 use Rattle.rules.specs.Timer.{grown, ticked, inWindow}
 use Rattle.rules.proofs.commands.Laws.{below-a-kind}
 use Rattle.rules.proofs.settings.Laws.{refused-by}
-use Rattle.monitor.specs.Record.{withSettings, withClock, withTimer, withActiveWindow, withDebugLog, restartedIf}
-use Rattle.monitor.specs.Record.{endedIf, afterSettings, settingsAnswer, afterCompletion}
+use Rattle.monitor.specs.Fields.{withSettings, withClock, withTimer, withActiveWindow, withDebugLog}
+use Rattle.monitor.specs.Record.{restartedIf, endedIf, afterSettings, settingsAnswer, afterCompletion}
 use Rattle.monitor.specs.Record.{completionAnswer, afterElapsed, elapsedAnswer, loadsAt, withBelowA}
 
 -- a completion without a counter, by the counts below threshold A that it leaves
