@@ -1,7 +1,9 @@
 // The block of a window on log page C3h: 186 bytes, the same for either window.
+ghost use mathlib.Core.Bool.{cond};
 ghost use mathlib.Core.Path.{_≡_};
 ghost use mathlib.Core.List.{[], _∷_};
 ghost use Prim.Native.Nat.{_<_, _≤_};
+ghost use lib.Dec.{eqb};
 ghost use lib.ListN.{length};
 ghost use lib.Seq.{sets};
 ghost use Rattle.window.specs.Block.{stampPlace, latencyPlace, buckets, downward, column, bits, blockBytes};
@@ -103,7 +105,7 @@ fn unit_bits(units: [bool; 12]) -> u64
 }
 
 // Fills a block, whatever it held.
-pub fn write_block(block: &mut [u8], w: Window)
+fn fill(block: &mut [u8], w: Window)
     requires { ⌜ length (now block) ≡ 186 ⌝ }
     ensures { λ _. ⌜ now (block .exit) ≡ blockBytes w ⌝ }
 {
@@ -115,4 +117,14 @@ pub fn write_block(block: &mut [u8], w: Window)
     put_stamps(block, stamps);
     put_latencies(block, latencies);
     endian::put(&mut block[184..186], unit_bits(units));
+}
+
+// Writes a window into bytes, however many: all of them where they are a block's, else none.
+pub fn write_block(block: &mut [u8], w: Window)
+    ensures { λ _. ⌜ now (block .exit) ≡ cond (eqb (length (now (block .entry))) 186) (blockBytes w) (now (block .entry)) ⌝ }
+{
+    if block.len() != LENGTH {
+        return;
+    }
+    fill(block, w);
 }

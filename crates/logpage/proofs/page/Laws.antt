@@ -1,11 +1,14 @@
 -- Laws of the page: its stores, one after the other.
+use mathlib.Core.Bool.{cond}
 use mathlib.Core.List.{List, _++_}
 use mathlib.Core.Path.{_≡_, refl, sym, _∙_, ap}
 use Prim.Native.Nat.{ℕ, _+_, _-_, _≤_}
 use native.Mathlib.Omega.{arith}
+use borrow.Author.Tests.{eq-eqb}
 use borrow.Rule.Slice.PartMut.{putMid}
-use lib.ListN.{length, take, drop, length-append}
-use lib.Seq.{sets, length-sets}
+use lib.Dec.{eqb}
+use lib.ListN.{length, take, drop, length-append, length-drop}
+use lib.Seq.{sets, length-sets, length-take-le}
 use Rattle.endian.specs.Stores.{lowFirst, fields}
 use Rattle.endian.proofs.Runs.{low-zeros, part-run, put-part, run-part, run-more, sets-whole}
 use Rattle.window.specs.Block.{zeros, blockBytes}
@@ -50,14 +53,23 @@ head-run s timer page part₁ part₂ h e₁ e₂ =
     zeros-more page _ part₂ first 0 13 19 (omega arith) (omega arith) r₁ e₂
 
 -- the two blocks, and the zeros after each
+-- a block that `write_block` fills
+block-at :
+    (l b bytes : List ℕ) (at : ℕ) →
+    at + 186 ≤ length l →
+    b ≡ cond (eqb (length (take 186 (drop at l))) 186) bytes (take 186 (drop at l)) →
+    b ≡ bytes
+block-at l b bytes at fits e =
+    e ∙ rw (eq-eqb _ _ (length-take-le 186 (drop at l) (omega (arith, length-drop at l))))
+
 pub windows-run :
     (active static : Window) (page b₁ z₂ b₃ z₄ : List ℕ) →
     length page ≡ 512 →
-    b₁ ≡ blockBytes active →
+    b₁ ≡ cond (eqb (length (take 186 (drop 32 page))) 186) (blockBytes active) (take 186 (drop 32 page)) →
     let s₁ = putMid 32 186 page b₁ in
     z₂ ≡ lowFirst (length (take 22 (drop 218 s₁))) 0 →
     let s₂ = putMid 218 22 s₁ z₂ in
-    b₃ ≡ blockBytes static →
+    b₃ ≡ cond (eqb (length (take 186 (drop 240 s₂))) 186) (blockBytes static) (take 186 (drop 240 s₂)) →
     let s₃ = putMid 240 186 s₂ b₃ in
     z₄ ≡ lowFirst (length (take 22 (drop 426 s₃))) 0 →
     putMid 426 22 s₃ z₄ ≡ sets page 32 (windowsBytes active static)
@@ -72,11 +84,14 @@ windows-run active static page b₁ z₂ b₃ z₄ h e₁ e₂ e₃ e₄ =
     let n₁ = length-block active in
     let n₂ : length to-240 ≡ 208 = simp (length-append, length-block) in
     let n₃ : length to-426 ≡ 394 = simp (length-append, length-block) in
-    let r₁ = part-run page b₁ first 32 186 (omega arith) n₁ e₁ in
+    let r₁ = part-run page b₁ first 32 186 (omega arith) n₁ (block-at page b₁ first 32 (omega arith) e₁) in
     let k₁ : length s₁ ≡ 512 = ap length r₁ ∙ length-sets page 32 first ∙ h in
     let r₂ = zeros-more page s₁ z₂ first 32 218 22 (omega arith) (omega arith) r₁ e₂ in
     let k₂ : length s₂ ≡ 512 = ap length r₂ ∙ length-sets page 32 to-240 ∙ h in
-    let p₃ = part-run s₂ b₃ (blockBytes static) 240 186 (omega arith) (length-block static) e₃ in
+    let p₃ =
+    part-run s₂ b₃ (blockBytes static) 240 186 (omega arith) (length-block static)
+    (block-at s₂ b₃ (blockBytes static) 240 (omega arith) e₃)
+    in
     let r₃ = run-more page s₂ s₃ to-240 (blockBytes static) 32 240 (omega arith) r₂ p₃ in
     let k₃ : length s₃ ≡ 512 = ap length r₃ ∙ length-sets page 32 to-426 ∙ h in
     zeros-more page s₃ z₄ to-426 32 426 22 (omega arith) (omega arith) r₃ e₄
