@@ -13,10 +13,10 @@ use Rattle.endian.specs.Bytes.{anySet}
 use Rattle.monitor.specs.Calls.{Call, settings, completion, elapsed, clock, powerUp, History, andThen, attributeIn}
 use Rattle.monitor.specs.Calls.{WithoutAttribute}
 use Rattle.events.specs.Claims.{EarlierCompletions, EarlierFiles}
-use Rattle.events.specs.Records.{recordKind, attribute, unnamed, settingsBytes, commandOf, completionOf, elapsedOf}
-use Rattle.events.specs.Records.{clockOf, callOfKind, callOf}
+use Rattle.records.specs.Records.{recordKind, attribute, unnamed, settingsBytes, commandOf, completionOf, elapsedOf}
+use Rattle.records.specs.Records.{clockOf, callOfKind, callOf}
 use Rattle.events.specs.Files.{recordAt, wholeRecords, callsBefore, historyOf}
-use Rattle.events.proofs.records.Laws.{known-call}
+use Rattle.records.proofs.Laws.{known-call}
 
 -- a byte and those behind it are clear
 clear : (b : ℕ) (rest : Bool) → (not (eqb b 0) || rest) ≡ false → (b ≡ 0) × (rest ≡ false)

@@ -15,7 +15,7 @@ use Rattle.events.specs.declared.explain.Question.{Question}
 use Rattle.events.specs.Claims.{InParts, joined, OfWholeRecords, ExplainedInParts, RefusedSkipped}
 use Rattle.events.specs.Explain.{Said, bytesBefore, saidAt, atEnd, numberSaid, inputSaid, questionOf}
 use Rattle.events.specs.Explain.{afterPart, partSaid, partsSaid}
-use Rattle.events.specs.Records.{callOf, recordRefusal, acceptedCall, afterRecord}
+use Rattle.records.specs.Records.{callOf, recordRefusal, acceptedCall, afterRecord}
 use Rattle.events.specs.Files.{recordAt, wholeRecords, callsBefore, acceptedBefore, historyOf}
 use Rattle.events.proofs.Parts.{in-parts, same-record, later-record}
 use Rattle.events.proofs.files.Laws.{untouched, then-one, then-same}

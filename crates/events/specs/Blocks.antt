@@ -8,7 +8,7 @@ use Rattle.monitor.specs.Calls.{found, playFrom}
 use Rattle.text.specs.Lines.{refusedLine}
 use Rattle.text.specs.Stored.{Stored}
 use Rattle.events.specs.declared.blocks.Block.{Block}
-use Rattle.events.specs.Records.{recordRefusal}
+use Rattle.records.specs.Records.{recordRefusal}
 use Rattle.events.specs.Files.{recordAt, wholeRecords, historyOf, endRefusal}
 
 -- the line of record i, if it is refused: its number, and the refusal. The bytes' first record has the number `first`;

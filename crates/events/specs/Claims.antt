@@ -12,7 +12,7 @@ use Rattle.monitor.specs.declared.record.Monitor.{Monitor}
 use Rattle.monitor.specs.Calls.{WithoutAttribute, completion, playFrom, found}
 use Rattle.events.specs.Blocks.{refusedLines}
 use Rattle.events.specs.Explain.{numberSaid, inputSaid, questionOf, partsSaid}
-use Rattle.events.specs.Records.{recordKind, part, unnamed, attribute, callOf}
+use Rattle.records.specs.Records.{recordKind, part, unnamed, attribute, callOf}
 use Rattle.events.specs.Files.{recordAt, wholeRecords, callsBefore, acceptedBefore, historyOf}
 
 -- what follows is played on the monitor that the first part leaves

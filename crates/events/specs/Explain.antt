@@ -15,7 +15,7 @@ use Rattle.text.specs.Lines.{numberLine, refusedLine}
 use Rattle.events.specs.declared.answers.Explained.{Explained}
 use Rattle.events.specs.declared.answers.Explained.the-variants as explained
 use Rattle.events.specs.declared.explain.Question.{Question}
-use Rattle.events.specs.Records.{callOf}
+use Rattle.records.specs.Records.{callOf}
 use Rattle.events.specs.Files.{recordAt, wholeRecords, historyOf}
 
 pub data Said : Type 0 where

@@ -9,7 +9,7 @@ use lib.ListN.{length, take, drop}
 use Rattle.monitor.specs.Calls.{History, found, andThen, orElse}
 use Rattle.events.specs.declared.answers.Halt.{Halt}
 use Rattle.events.specs.declared.answers.Halt.the-variants as halt
-use Rattle.events.specs.Records.{callOf, recordRefusal, acceptedCall}
+use Rattle.records.specs.Records.{callOf, recordRefusal, acceptedCall}
 
 -- record i of a file, from 0
 abbrev pub recordAt : List ℕ → ℕ → List ℕ

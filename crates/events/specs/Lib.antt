@@ -1,4 +1,3 @@
-pub mod Records
 pub mod Files
 pub mod Blocks
 pub mod Explain

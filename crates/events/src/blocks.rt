@@ -9,7 +9,6 @@ ghost use Rattle.events.specs.Files.{wholeRecords};
 ghost use Rattle.events.specs.Blocks.{BlockLeaves, withRoom, endLine};
 use crate::answers::Halt;
 use crate::files;
-use crate::records;
 use monitor::Answer;
 use monitor::Monitor;
 use text::Line;

@@ -12,7 +12,6 @@ ghost use Rattle.events.specs.Explain.{saysExplained};
 use crate::answers::Explained;
 use crate::blocks;
 use crate::files;
-use crate::records;
 use monitor::Monitor;
 use text::Line;
 

@@ -6,12 +6,10 @@ ghost use Rattle.monitor.specs.Calls.{playFrom};
 ghost use Rattle.events.specs.Files.{callsBefore, historyOf, firstRefused};
 ghost use Rattle.events.specs.Files.{acceptedRecords, refusalAt, saysHalt, endRefusal};
 use crate::answers::Halt;
-use crate::answers::RecordAnswer;
-use crate::calls;
-use crate::records;
 use crate::stretch;
 use monitor::Answer;
 use monitor::Monitor;
+use records::RecordAnswer;
 
 pub struct Stop {
     pub monitor: Monitor,
@@ -37,7 +35,7 @@ pub fn run(m: Monitor, s: &[u8]) -> Stop
     while i < s.len() / records::RECORD {
         let from = records::RECORD * i;
         let to = from + records::RECORD;
-        let o = calls::apply(monitor, &s[from..to]);
+        let o = records::apply(monitor, &s[from..to]);
         let answer = o.answer;
         if let RecordAnswer::Refused(number) = answer {
             return refused_at(o.next, i, number);

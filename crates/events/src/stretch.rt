@@ -4,7 +4,6 @@ ghost use mathlib.Core.Path.{_≡_};
 ghost use Prim.Native.Nat.{_≤_};
 ghost use Rattle.monitor.specs.Calls.{playFrom};
 ghost use Rattle.events.specs.Files.{callsBefore, wholeRecords, NoneRefused};
-use crate::records;
 use batch::passing;
 use batch::tally;
 use monitor::Monitor;

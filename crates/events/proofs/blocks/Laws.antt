@@ -15,7 +15,7 @@ use Rattle.text.specs.declared.lines.Line.{Line}
 use Rattle.text.specs.Lines.{refusedLine, asLine}
 use Rattle.text.specs.Stored.{Stored}
 use Rattle.events.specs.Blocks.{recordLine, linesFrom, refusedLines, endLine}
-use Rattle.events.specs.Records.{recordRefusal}
+use Rattle.records.specs.Records.{recordRefusal}
 use Rattle.events.specs.Files.{Refusal, refusalAt, firstRefusedFrom, firstRefused, recordAt}
 use Rattle.events.specs.Files.{wholeRecords, endRefusal}
 use Rattle.events.proofs.files.Laws.{rest-record}

@@ -17,8 +17,8 @@ use Rattle.monitor.specs.Record.{newMonitor}
 use Rattle.events.specs.declared.explain.Question.{Question}
 use Rattle.events.specs.Explain.{reason, notACompletion, completionAt, recordSaid, bytesBefore, saidAt}
 use Rattle.events.specs.Explain.{recordNumber, numberSaid, questionOf, afterPart, partSaid}
-use Rattle.events.specs.Records.{recordKind, attribute, unnamed, settingsBytes, commandOf, completionOf, elapsedOf}
-use Rattle.events.specs.Records.{clockOf, callOfKind, callOf, isCompletion}
+use Rattle.records.specs.Records.{recordKind, attribute, unnamed, settingsBytes, commandOf, completionOf, elapsedOf}
+use Rattle.records.specs.Records.{clockOf, callOfKind, callOf, isCompletion}
 use Rattle.events.specs.Files.{recordAt, wholeRecords, historyOf}
 
 -- a number with too few bytes, and a whole one

@@ -14,7 +14,7 @@ use Rattle.rules.specs.Answers.{refused, done, unlessRefused}
 use Rattle.monitor.specs.Calls.{Call, settings, completion, elapsed, clock, powerUp, page, settingsBack, History}
 use Rattle.monitor.specs.Calls.{belowA, after, playFrom, refusalOf, found, andThen, orElse}
 use Rattle.monitor.specs.Record.{afterSettings, afterElapsed, afterClock}
-use Rattle.events.specs.Records.{callOf, recordRefusal, afterRecord}
+use Rattle.records.specs.Records.{callOf, recordRefusal, afterRecord}
 use Rattle.events.specs.Files.{endRefusal, recordAt, wholeRecords, callsBefore, historyOf, Refusal, NoneRefused}
 use Rattle.events.specs.Files.{refusalAt, firstRefusedFrom, firstRefused, acceptedRecords}
 

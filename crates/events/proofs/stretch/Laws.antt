@@ -20,9 +20,9 @@ use Rattle.batch.specs.Tally.{codeOf, KindPlaces, reachedBelow, countPlace, AtM
 use Rattle.batch.specs.Tally.{Bounds, stampedBy, withActive}
 use Rattle.batch.specs.Claims.{withCounts, stampedIn}
 use Rattle.batch.proofs.Counts.{counts-alone, stamps-alone, bounds-follow, at-most-set, kind-place-few, reached-few}
-use Rattle.events.specs.Records.{callOf, recordRefusal, afterRecord, timedBy}
+use Rattle.records.specs.Records.{callOf, recordRefusal, afterRecord, timedBy}
 use Rattle.events.specs.Files.{recordAt, wholeRecords, NoneRefused}
-use Rattle.events.proofs.records.Laws.{completion-accepted, timed-alone}
+use Rattle.records.proofs.Laws.{completion-accepted, timed-alone}
 use Rattle.events.proofs.files.Laws.{Replayed, one-more}
 
 -- the monitor, with the active window that is kept apart, is what the records before i leave; none of them was refused,

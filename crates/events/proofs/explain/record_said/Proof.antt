@@ -4,7 +4,7 @@ use mathlib.Core.Path.{sym, ap, _∙_}
 use borrow.Author.Needs.{needs}
 use Rattle.events.specs.Explain.{reason}
 use Rattle.events.proofs.explain.Laws.{completion-said, other-said}
-use Rattle.events.proofs.records.Laws.{completion-call}
+use Rattle.records.proofs.Laws.{completion-call}
 use Rattle.events.proofs.explain.record_said.Statement.{statement}
 use Rattle.events.proofs.explain.record_said.Tie as tie
 

@@ -2,9 +2,9 @@
 use mathlib.Core.Path.{sym, ap, _∙_}
 use Prim.Native.Nat.{_+_, _-_}
 use native.Mathlib.Omega.{arith}
-use Rattle.events.specs.Records.{saysRecord}
+use Rattle.records.specs.Records.{saysRecord}
 use Rattle.events.specs.Files.{wholeRecords}
-use Rattle.events.proofs.records.Laws.{refusal-named, let-through}
+use Rattle.records.proofs.Laws.{refusal-named, let-through}
 use Rattle.events.proofs.files.Laws.{Ran, the-record, behind, few-behind, started, went-on}
 use Rattle.events.proofs.files.Laws.{ran-far, stopped, ended}
 use borrow.Author.Needs.{needs}

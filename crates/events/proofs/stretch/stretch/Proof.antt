@@ -5,11 +5,11 @@ use Prim.Native.Nat.{_+_, _*_, _-_, _<_}
 use lib.ListN.{getD}
 use native.Mathlib.Omega.{arith}
 use Rattle.monitor.specs.Calls.{completion, playFrom}
-use Rattle.events.specs.Records.{callOf}
+use Rattle.records.specs.Records.{callOf}
 use Rattle.events.specs.Files.{recordAt, callsBefore}
 use Rattle.batch.specs.Tally.{codeOf}
 use Rattle.batch.proofs.Counts.{few-counters}
-use Rattle.events.proofs.records.Laws.{completion-call}
+use Rattle.records.proofs.Laws.{completion-call}
 use Rattle.events.proofs.files.Laws.{the-record, sixteen}
 use Rattle.events.proofs.stretch.Laws.{Stretched, stretch-ends, added, few-reached, one-counted, one-stamped}
 use Rattle.events.proofs.stretch.Laws.{time-went-on}

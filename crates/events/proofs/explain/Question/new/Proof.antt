@@ -2,7 +2,7 @@
 use native.Mathlib.Omega.{arith}
 use borrow.Author.Needs.{needs}
 use Rattle.events.proofs.explain.Laws.{asks}
-use Rattle.events.proofs.records.Laws.{loaded, four-fit}
+use Rattle.records.proofs.Laws.{loaded, four-fit}
 use Rattle.events.proofs.explain.Question.new.Statement.{statement}
 use Rattle.events.proofs.explain.Question.new.Tie as tie
 
