@@ -9,8 +9,6 @@ pub use lines::number_line;
 pub use lines::refused_line;
 pub use lines::refused_record;
 pub use listing::Listing;
-pub use listing::counts_listing;
 pub use listing::page_listing;
-pub use listing::refused_listing;
 pub use pages::Text;
 pub use pages::page_text;

@@ -52,7 +52,7 @@ fn put_listing(out: &mut [u8], active_counts: [u32; 12], static_counts: [u32; 12
 }
 
 // The listing of a page's counts, by counter number.
-pub fn counts_listing(active_counts: [u32; 12], static_counts: [u32; 12]) -> Listing
+fn counts_listing(active_counts: [u32; 12], static_counts: [u32; 12]) -> Listing
     ensures { λ r. ⌜ r ≡ asListing (listingOf «active_counts» «static_counts») ⌝ }
     ensures { λ r. ⌜ r .len ≤ length (r .bytes) ⌝ }
 {
@@ -62,7 +62,7 @@ pub fn counts_listing(active_counts: [u32; 12], static_counts: [u32; 12]) -> Lis
 }
 
 // The listing of a page that is refused.
-pub fn refused_listing(refusal: u64) -> Listing
+fn refused_listing(refusal: u64) -> Listing
     ensures { λ r. ⌜ r ≡ asListing (refusedLine (refusal ∷ [])) ⌝ }
     ensures { λ r. ⌜ r .len ≤ length (r .bytes) ⌝ }
 {
