@@ -29,8 +29,8 @@ use Rattle.logpage.proofs.reader.Reading as Rd
 use Rattle.logpage.proofs.reader.Reading.Laws as Rd′
 use Rattle.latency_monitor.proofs.reading.ReadOutcome as RO
 use Rattle.latency_monitor.proofs.reading.ReadOutcome.Laws as RO′
-use Rattle.latency_monitor.proofs.PlainData.{Plain, plain-uint, plain-struct, plain-enum, tagged-enum, Way}
-use Rattle.latency_monitor.proofs.PlainData.{by-case, Outcome, outcome-struct}
+use Rattle.lending.proofs.PlainData.{Plain, plain-uint, plain-struct, plain-enum, tagged-enum, Way}
+use Rattle.lending.proofs.PlainData.{by-case, Outcome, outcome-struct}
 
 abbrev pub the-record : Plain Mon.the-row
 the-record = plain-struct Mon.the-type Mon′.the-laws Mon′.the-plain Mon′.the-copy

@@ -1,10 +1,1 @@
-pub mod PlainData
 pub mod AnswerTypes
-pub mod Locals
-pub mod Rules
-pub mod Walks
-pub mod Stores
-pub mod Parameters
-pub mod Lent
-pub mod Shown
-pub mod Read

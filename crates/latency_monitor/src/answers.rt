@@ -1,7 +1,8 @@
 // What the calls answer, as C reads it: neither enums nor arrays cross the boundary.
 ghost use mathlib.Core.Path.{_≡_};
 ghost use Rattle.rules.specs.Answers.{saysAnswer, saysCompletion, saysElapsed};
-ghost use Rattle.monitor.specs.Report.{countsBelowA};
+ghost use lib.ListN.{length};
+ghost use Rattle.monitor.specs.Report.{afterPage, pageAnswer, afterSettingsBack, settingsBackAnswer, countsBelowA};
 ghost use Rattle.monitor.specs.declared.windows.WindowChoice.the-variants.{Active, Static};
 ghost use Rattle.latency_monitor.specs.Answers.{asRefusal, noCounter, asCompletion, asElapsed, asBelowA};
 use monitor::Answer;
@@ -102,6 +103,20 @@ pub(crate) fn elapsed(a: ElapsedAnswer) -> PlainElapsedAnswer
             ended: true,
         },
     }
+}
+
+pub(crate) fn page(m: Monitor, page: &mut [u8]) -> u8
+    ensures bytes { λ _. ⌜ now (page .exit) ≡ afterPage m (now (page .entry)) ⌝ }
+    ensures answer { λ r. ⌜ r ≡ asRefusal (pageAnswer (length (now (page .entry)))) ⌝ }
+{
+    refusal(m.page(page))
+}
+
+pub(crate) fn settings_back(m: Monitor, s: &mut [u8]) -> u8
+    ensures bytes { λ _. ⌜ now (s .exit) ≡ afterSettingsBack m (now (s .entry)) ⌝ }
+    ensures answer { λ r. ⌜ r ≡ asRefusal (settingsBackAnswer (length (now (s .entry)))) ⌝ }
+{
+    refusal(m.settings_back(s))
 }
 
 fn below_a(m: Monitor, window: WindowChoice) -> PlainBelowA

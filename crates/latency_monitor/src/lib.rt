@@ -1,7 +1,7 @@
 // The firmware's boundary: the record is lent for each call, in C's calling convention. Each function calls the
 // monitor's rule on the record, stores the record that comes back, and gives the answer as numbers;
 // include/latency_monitor.h declares them. `page`, `settings_back`, `reason` and the counts below threshold A only read
-// the record; `read_page` has no part in it, and fills the fields of a page that are lent.
+// the record; `read_page` has no part in it, and is lent the fields of a page.
 mod answers;
 mod reading;
 
@@ -10,7 +10,6 @@ pub use answers::PlainCompletionAnswer;
 pub use answers::PlainElapsedAnswer;
 ghost use mathlib.Core.Path.{_≡_};
 ghost use lib.ListN.{length};
-ghost use Rattle.logpage.specs.Reader.{readingOf};
 ghost use Rattle.rules.specs.Answers.{done};
 ghost use Rattle.monitor.specs.Reasons.{reasonOf};
 ghost use Rattle.monitor.specs.Record.{newMonitor, afterSettings, settingsAnswer, afterCompletion, completionAnswer};
@@ -18,7 +17,7 @@ ghost use Rattle.monitor.specs.Record.{afterElapsed, elapsedAnswer, afterClock,
 ghost use Rattle.monitor.specs.Report.{afterPage, pageAnswer, afterSettingsBack, settingsBackAnswer, countsBelowA};
 ghost use Rattle.monitor.specs.declared.windows.WindowChoice.the-variants.{Active, Static};
 ghost use Rattle.latency_monitor.specs.Answers.{asRefusal, asCompletion, asElapsed, asBelowA};
-ghost use Rattle.latency_monitor.specs.Reading.{readAnswer};
+ghost use Rattle.latency_monitor.specs.Reading.{readInto, readAnswer};
 use logpage::Reading;
 use monitor::Command;
 use monitor::CompletionAnswer;
@@ -120,7 +119,7 @@ pub extern "C" fn latency_monitor_page(m: &Monitor, page: &mut [u8]) -> u8
     ensures bytes { λ _. ⌜ now (page .exit) ≡ afterPage (now (m .entry)) (now (page .entry)) ⌝ }
     ensures answer { λ r. ⌜ r ≡ asRefusal (pageAnswer (length (now (page .entry)))) ⌝ }
 {
-    answers::refusal(Monitor::page(*m, page))
+    answers::page(*m, page)
 }
 
 // The settings in force, into a buffer of 4,096 bytes.
@@ -129,7 +128,7 @@ pub extern "C" fn latency_monitor_settings_back(m: &Monitor, s: &mut [u8]) -> u8
     ensures bytes { λ _. ⌜ now (s .exit) ≡ afterSettingsBack (now (m .entry)) (now (s .entry)) ⌝ }
     ensures answer { λ r. ⌜ r ≡ asRefusal (settingsBackAnswer (length (now (s .entry)))) ⌝ }
 {
-    answers::refusal(Monitor::settings_back(*m, s))
+    answers::settings_back(*m, s)
 }
 
 // The enabled completions below threshold A in the active window.
@@ -160,7 +159,7 @@ pub extern "C" fn latency_monitor_reason(m: &Monitor, c: Command) -> u8
 // A page of 512 bytes read back into its fields.
 #[no_mangle]
 pub extern "C" fn latency_monitor_read_page(fields: &mut Reading, page: &[u8]) -> u8
-    ensures next { λ _. ⌜ now (fields .exit) ≡ readingOf (now (page .entry)) ⌝ }
+    ensures next { λ _. ⌜ now (fields .exit) ≡ readInto (now (fields .entry)) (now (page .entry)) ⌝ }
     ensures answer { λ r. ⌜ r ≡ asRefusal (readAnswer (now (page .entry))) ⌝ }
 {
     let o = reading::read_into(*fields, page);

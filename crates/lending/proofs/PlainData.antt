@@ -1,5 +1,4 @@
--- What the walks of the lending functions ask of a type: of plain data, of an enum that is matched, of an outcome, and
--- of a parameter that is passed on to the rule.
+-- What the walks of the lending functions ask of a type: of plain data, of an enum that is matched, and of an outcome.
 use mathlib.Core.Path.{_≡_, refl, sym, ap, subst, _∙_}
 use Prim.Native.Nat.{ℕ, suc}
 use mathlib.Core.List.{[], _∷_}
@@ -167,54 +166,3 @@ module _ {T N : RattleType} (PT : Plain T) (PN : Plain N) where
         subst (λ τ. Holds (hasTy τ v) × WT v) same-mir (structs.lawful S laws 𝓤 H A W .typed r (v ∷ []) is .0);
     parts = λ r v is. parts r (structs.owed S laws r (v ∷ []) is);
   }
-
--- A parameter that is passed on to the rule, where it is an `X` at the rule's lifetimes: plain data, or a slice to be
--- read. `here` is the type as the lending function writes it, and `mir` that of its local.
-pub record Passed (n : ℕ) (X : Lfts n → RattleType) : Type 2 where
-  pub here : RattleType
-  pub mir : Ty
-  pub val : (κs : Lfts n) → X κs .Denot → Val
-  pub tells : (κs : Lfts n) → Tells (X κs) (Is (X κs)) (λ x. val κs x ∷ [])
-  pub typed : {M : Type 1} (𝓤 : URA M) (H : Heap 𝓤) (A : Atoms 𝓤) → Given 𝓤 H A → (κs : Lfts n) (x : X κs .Denot)
-      → Is (X κs) x (val κs x ∷ []) → Holds (hasTy mir (val κs x)) × WT (val κs x)
-  pub still : (κs : Lfts n) → X κs .exit yes ≡ unchanged
-
-abbrev pub passed : {X : RattleType} → Plain X → Passed 0 (λ _. X)
-passed {X} PX = record {
-  here = X;
-  mir = PX .mir;
-  val = λ _. PX .val;
-  tells = λ _. PX .tells;
-  typed = λ 𝓤 H A W _ x. PX .typed 𝓤 H A W x (PX .val x);
-  still = λ _. PX .still;
-}
-
--- a slice of bytes, at the lending function's second lifetime
-abbrev pub passed-bytes : Passed 1 (λ κs. ShrSlice (named 0) (κs .0) u8)
-passed-bytes = record {
-  here = ShrSlice (named 1) [] u8;
-  mir = sliceTy (tyRef (named 1) imm (tyInt w8));
-  val = λ _ s. sliceVal (s .ptr) (length (s .now));
-  tells = λ κs. shr-slice-tells (named 0) (κs .0) u8;
-  typed = λ 𝓤 H A W κs s is. shr-slice-lawful 𝓤 H A W (named 1) (κs .0) u8 .typed s _ is .0;
-  still = λ _. refl;
-}
-
--- the type X, written as `here`
-abbrev pub written-as : RattleType → RattleType → RattleType
-written-as X here = record {
-  Denot = X .Denot;
-  mir = here .mir;
-  written = here .written;
-  reaches = here .reaches;
-  own = X .own;
-  exit = X .exit;
-  coded = X .coded;
-}
-
--- of what is seen at exit as it was passed, nothing is bound and nothing said
-pub nothing-bound : {D : Type 0} {e : Exit D} → e ≡ unchanged → (x : D) → Last e x
-nothing-bound same x = subst (λ e. Last e x) (sym same) tt
-
-pub nothing-said : {D : Type 0} {e : Exit D} → e ≡ unchanged → (x : D) (f : Last e x) → left e x f ≡ ftrue
-nothing-said same x = subst (λ e. (f : Last e x) → left e x f ≡ ftrue) (sym same) (λ f. refl)

@@ -1,0 +1,11 @@
+pub mod PlainData
+pub mod Locals
+pub mod Loans
+pub mod Parameters
+pub mod Handing
+pub mod Walks
+pub mod Rules
+pub mod Lends
+pub mod Reading
+pub mod Writing
+pub mod Filling
