@@ -18,6 +18,7 @@ pub(crate) fn read_into(old: Reading, page: &[u8]) -> ReadOutcome
     ensures answer { λ r. ⌜ saysAnswer (r .answer) ≡ readAnswer (now (page .entry)) ⌝ }
 {
     let read = LogPage::read(page);
+    let shown = read.reading;
     let said = read.answer;
     match said {
         Answer::Refused(number) => {
@@ -25,9 +26,11 @@ pub(crate) fn read_into(old: Reading, page: &[u8]) -> ReadOutcome
             ReadOutcome { next: old, answer }
         }
         Answer::Done => {
-            let next = read.reading;
             let answer = Answer::Done;
-            ReadOutcome { next, answer }
+            ReadOutcome {
+                next: shown,
+                answer,
+            }
         }
     }
 }

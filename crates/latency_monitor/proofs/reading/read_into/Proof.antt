@@ -38,14 +38,14 @@ enum-told c = search needs
 
 returns : tie.Need-returns
 returns c =
-    let read = c .before .before .before .read in
+    let read = c .before .before .before .before .read in
     let refusal = sym (read .ensures .0) ∙ ap refusalIn (c .before .said .given .1) in
     turned-away _ _ _ refusal
 
 returns-2 : tie.Need-returns-2
 returns-2 c =
     let read = c .before .before .before .read in
-    let refusal = sym (read .ensures .0) ∙ ap refusalIn (c .before .enum-told .given .1) in
+    let refusal = sym (read .ensures .0) ∙ ap refusalIn (c .enum-told .given .1) in
     read-whole _ _ _ refusal (read .ensures .1)
 
 pub read-into-spec : {M : Type 1} → statement M
