@@ -34,13 +34,14 @@ enum { ORDERS = 64, EACH = ORDERS * SHORT };
 
 _Static_assert(RUNS * LAPS % ORDERS == 0, "a round has each order as often");
 
-enum { KINDS = 3 };
-
-enum { COUNTERS = LATENCY_MONITOR_COUNTERS, FIRST = 0, LARGEST = 0x0FFF, TRIGGER = 0x0249, INCREMENT_MS = 300000 };
+enum {
+    KINDS = LATENCY_MONITOR_KINDS, COUNTERS = LATENCY_MONITOR_COUNTERS, FIRST = 0, LARGEST = 0x0FFF, TRIGGER = 0x0249,
+    INCREMENT_MS = LATENCY_MONITOR_INCREMENT_MS
+};
 
 static struct latency_monitor_command below[EACH], other[EACH], slow[EACH], each_counter[COUNTERS];
-static uint32_t ms[EACH];
-static uint64_t clocks[SHORT];
+static uint32_t elapsed_ms[EACH];
+static uint64_t clocks_ms[SHORT];
 static struct named_settings settings[LONG];
 static _Alignas(64) struct log_page pages[LONG];
 
@@ -75,8 +76,8 @@ static const struct work works[] = {
         .mode = FIRST, .answers = COUNTED},
     {.name = "completion, loaded", .call = COMPLETION, .calls = SHORT, .orders = ORDERS, .commands = slow,
         .mode = LARGEST, .lap_ms = INCREMENT_MS, .answers = LOADED + LAP_ENDED},
-    {.name = "elapsed", .call = ELAPSED, .calls = SHORT, .orders = ORDERS, .ms = ms},
-    {.name = "set_clock", .call = SET_CLOCK, .calls = SHORT, .clocks = clocks},
+    {.name = "elapsed", .call = ELAPSED, .calls = SHORT, .orders = ORDERS, .elapsed_ms = elapsed_ms},
+    {.name = "set_clock", .call = SET_CLOCK, .calls = SHORT, .clocks_ms = clocks_ms},
     {.name = "power_up", .call = POWER_UP, .calls = SHORT},
     {.name = "active_below_a", .call = ACTIVE_BELOW_A, .calls = SHORT, .answers = SHORT * BELOW_A},
     {.name = "static_below_a", .call = STATIC_BELOW_A, .calls = SHORT},
@@ -127,14 +128,16 @@ static const uint8_t thresholds[4] = {0, 31, 63, 95};
 
 /* A command of each kind. */
 static const struct latency_monitor_command kinds[KINDS] = {
-    {.opcode = 0x02}, {.opcode = 0x01}, {.opcode = 0x09, .deallocate = true}
+    [LATENCY_MONITOR_KIND_READ] = {.opcode = LATENCY_MONITOR_OPCODE_READ},
+    [LATENCY_MONITOR_KIND_WRITE] = {.opcode = LATENCY_MONITOR_OPCODE_WRITE},
+    [LATENCY_MONITOR_KIND_DEALLOCATE] = {.opcode = LATENCY_MONITOR_OPCODE_DATASET_MANAGEMENT, .deallocate = true}
 };
 
 static struct latency_monitor_command command_for(int counter, uint32_t above_us)
 {
-    struct latency_monitor_command command = kinds[counter % 3];
+    struct latency_monitor_command command = kinds[counter % KINDS];
 
-    command.latency = 5000 * (thresholds[counter / 3] + 1u) + above_us;
+    command.latency_us = 5000 * (thresholds[counter / KINDS] + 1u) + above_us;
     return command;
 }
 
@@ -179,9 +182,9 @@ static void draw_pages(void)
         uint16_t mode = (uint16_t)draw(4096), trigger = i % 2 ? 0x0FFF : 0;
         side->once(&(struct stroke){.call = NEW});
         side->once(&(struct stroke){.call = CONFIGURE, .settings = settings_of(1, mode, trigger, true)});
-        side->once(&(struct stroke){.call = SET_CLOCK, .clock = clocks[i]});
+        side->once(&(struct stroke){.call = SET_CLOCK, .clock_ms = clocks_ms[i]});
         complete_some(side);
-        side->once(&(struct stroke){.call = ELAPSED, .ms = INCREMENT_MS});
+        side->once(&(struct stroke){.call = ELAPSED, .elapsed_ms = INCREMENT_MS});
         if (draw(2))
             side->once(&(struct stroke){.call = POWER_UP});
         complete_some(side);
@@ -198,13 +201,13 @@ static void draw_inputs(void)
         draw_slow(slow + lap * SHORT);
     for (int i = 0; i < EACH; i++) {
         below[i] = command_for((int)draw(3), 0);
-        below[i].latency = 20 + draw(4980);
+        below[i].latency_us = 20 + draw(4980);
         other[i] = below[i];
         other[i].opcode = (uint8_t)(10 + draw(246));
-        ms[i] = draw(20);
+        elapsed_ms[i] = draw(20);
     }
     for (int i = 0; i < SHORT; i++)
-        clocks[i] = (uint64_t)draw(1 << 16) << 32 | draw(UINT32_MAX);
+        clocks_ms[i] = (uint64_t)draw(1 << 16) << 32 | draw(UINT32_MAX);
     for (int i = 0; i < LONG; i++) {
         uint16_t timer_threshold = (uint16_t)(1 + draw(1000)), mode = (uint16_t)draw(4096);
         settings[i] = settings_of(timer_threshold, mode, (uint16_t)draw(4096), draw(4) > 0);
@@ -219,7 +222,7 @@ static void make_ready(const struct side *side, uint16_t mode)
 {
     side->once(&(struct stroke){.call = NEW});
     side->once(&(struct stroke){.call = CONFIGURE, .settings = settings_of(1, mode, TRIGGER, true)});
-    side->once(&(struct stroke){.call = SET_CLOCK, .clock = 1700000000000});
+    side->once(&(struct stroke){.call = SET_CLOCK, .clock_ms = 1700000000000});
     for (int n = 0; n < COUNTERS; n++)
         side->once(&(struct stroke){.call = COMPLETION, .command = each_counter[n]});
     for (int kind = 0; kind < KINDS; kind++)
@@ -271,13 +274,13 @@ static uint64_t ask_and_complete(struct latency_monitor_command command)
 /* Every opcode, without the deallocate attribute and with it, just below A, at A, and with the largest latency. */
 static void complete_alike(void)
 {
-    uint32_t a_us = command_for(0, 0).latency, us[3] = {a_us - 1, a_us, UINT32_MAX};
+    uint32_t a_us = command_for(0, 0).latency_us, us[3] = {a_us - 1, a_us, UINT32_MAX};
 
     for (int opcode = 0; opcode < 256; opcode++)
         for (int deallocate = 0; deallocate < 2; deallocate++)
             for (int i = 0; i < 3; i++)
                 ask_and_complete((struct latency_monitor_command){
-                    .latency = us[i], .opcode = (uint8_t)opcode, .deallocate = deallocate});
+                    .latency_us = us[i], .opcode = (uint8_t)opcode, .deallocate = deallocate});
 }
 
 /* Drawn modes and minimum windows; few counters, so that stamps are met again, and time at the minimum window's end,
@@ -293,7 +296,7 @@ static void draw_reasons(unsigned met[REASONS])
         struct latency_monitor_command command = draw(10) ? command_for((int)draw(4), draw(9000)) : below[draw(SHORT)];
         command.deallocate &= draw(10) > 0;
         met[ask_and_complete(command)]++;
-        play_alike((struct stroke){.call = ELAPSED, .ms = draw(50) ? some_ms[draw(5)] : INCREMENT_MS});
+        play_alike((struct stroke){.call = ELAPSED, .elapsed_ms = draw(50) ? some_ms[draw(5)] : INCREMENT_MS});
     }
 }
 
@@ -317,7 +320,7 @@ static void check_counts(void)
     for (int s = 0; s < SIDES; s++)
         make_ready(sides[s], FIRST);
     complete_alike();
-    play_alike((struct stroke){.call = ELAPSED, .ms = INCREMENT_MS});
+    play_alike((struct stroke){.call = ELAPSED, .elapsed_ms = INCREMENT_MS});
     complete_alike();
     play_alike((struct stroke){.call = CONFIGURE, .settings = settings_of(1, FIRST, TRIGGER, false)});
     complete_alike();
@@ -517,11 +520,11 @@ static void note_depths(const struct side *side, size_t depth[CALLS])
     struct log_page broken = pages[0];
     const struct stroke strokes[] = {
         {.call = NEW}, {.call = CONFIGURE, .settings = settings_of(1, LARGEST, LARGEST, true)},
-        {.call = SET_CLOCK, .clock = 1}, {.call = COMPLETION, .command = below[0]},
+        {.call = SET_CLOCK, .clock_ms = 1}, {.call = COMPLETION, .command = below[0]},
         {.call = COMPLETION, .command = slow[0]}, {.call = REASON, .command = below[0]},
-        {.call = REASON, .command = slow[0]}, {.call = ELAPSED, .ms = 1}, {.call = ELAPSED, .ms = INCREMENT_MS},
-        {.call = ELAPSED, .ms = INCREMENT_MS + 1}, {.call = POWER_UP}, {.call = ACTIVE_BELOW_A},
-        {.call = STATIC_BELOW_A}, {.call = PAGE}, {.call = SETTINGS_BACK},
+        {.call = REASON, .command = slow[0]}, {.call = ELAPSED, .elapsed_ms = 1},
+        {.call = ELAPSED, .elapsed_ms = INCREMENT_MS}, {.call = ELAPSED, .elapsed_ms = INCREMENT_MS + 1},
+        {.call = POWER_UP}, {.call = ACTIVE_BELOW_A}, {.call = STATIC_BELOW_A}, {.call = PAGE}, {.call = SETTINGS_BACK},
         {.call = READ_PAGE, .page = &pages[0]}, {.call = READ_PAGE, .page = &pages[1]},
         {.call = READ_PAGE, .page = &broken}, {.call = READ_PAGE, .page = &no_page}
     };

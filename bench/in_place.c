@@ -3,12 +3,16 @@
 #include <endian.h>
 #include <string.h>
 
-enum { INCREMENT_MS = 300000, NAMED_SETTINGS = 13, VERSION = 4 };
+enum { INCREMENT_MS = LATENCY_MONITOR_INCREMENT_MS, NAMED_SETTINGS = 13, VERSION = 4 };
 
-#define CLOCK_TOP UINT64_C(0xFFFFFFFFFFFF)
+#define CLOCK_TOP_MS (LATENCY_MONITOR_CLOCK_LIMIT_MS - 1)
 
 /* A command as a number: its opcode, and DEALLOCATE more with the deallocate attribute or bit. */
-enum { WRITE = 0x01, READ = 0x02, WRITE_ZEROES = 0x08, DATASET_MANAGEMENT = 0x09, DEALLOCATE = 0x100 };
+enum {
+    READ = LATENCY_MONITOR_OPCODE_READ, WRITE = LATENCY_MONITOR_OPCODE_WRITE,
+    DATASET_MANAGEMENT = LATENCY_MONITOR_OPCODE_DATASET_MANAGEMENT, WRITE_ZEROES = LATENCY_MONITOR_OPCODE_WRITE_ZEROES,
+    DEALLOCATE = 0x100
+};
 
 /* A command's kind, from 1 on, or 0. It comes from a table: no processor can guess the kind of the next command. */
 static unsigned kind_of(unsigned command)
@@ -76,7 +80,7 @@ static void put64(uint8_t *p, uint64_t v)
 static void empty(struct in_place_window *w)
 {
     memset(w, 0, sizeof *w);
-    memset(w->stamp, 0xFF, sizeof w->stamp);
+    memset(w->stamp_ms, 0xFF, sizeof w->stamp_ms);
 }
 
 /* In a new active window each counter's first completion is beyond its limit. None below A ever is, and of no kind one
@@ -106,17 +110,17 @@ static bool all_zero(const uint8_t *p, size_t length)
 static uint8_t settings_refusal(const uint8_t *s, size_t length)
 {
     if (length != LATENCY_MONITOR_SETTINGS_LENGTH)
-        return LATENCY_MONITOR_SETTINGS_LENGTH_WRONG;
+        return LATENCY_MONITOR_REFUSED_SETTINGS_LENGTH;
     if (!all_zero(s + NAMED_SETTINGS, length - NAMED_SETTINGS))
-        return LATENCY_MONITOR_RESERVED_BYTE;
+        return LATENCY_MONITOR_REFUSED_RESERVED_BYTE;
     if (s[11] > 1 || s[12] > 1)
-        return LATENCY_MONITOR_FLAG_ABOVE_ONE;
+        return LATENCY_MONITOR_REFUSED_FLAG_ABOVE_ONE;
     if (get16(s) == 0)
-        return LATENCY_MONITOR_NO_TIMER_THRESHOLD;
+        return LATENCY_MONITOR_REFUSED_NO_TIMER_THRESHOLD;
     if (s[2] > s[3] || s[3] > s[4] || s[4] > s[5])
-        return LATENCY_MONITOR_THRESHOLD_ORDER;
+        return LATENCY_MONITOR_REFUSED_THRESHOLD_ORDER;
     if ((get16(s + 6) | get16(s + 9)) >> LATENCY_MONITOR_COUNTERS)
-        return LATENCY_MONITOR_RESERVED_BIT;
+        return LATENCY_MONITOR_REFUSED_RESERVED_BIT;
     return LATENCY_MONITOR_ACCEPTED;
 }
 
@@ -140,8 +144,8 @@ uint8_t in_place_configure(struct in_place *m, const uint8_t *s, size_t length)
         empty_active(m);
         empty(&m->static_window);
         m->timer = 0;
-        m->partial = 0;
-        m->time = 0;
+        m->partial_ms = 0;
+        m->time_ms = 0;
     }
     return LATENCY_MONITOR_ACCEPTED;
 }
@@ -151,13 +155,13 @@ static bool load(struct in_place *m, unsigned n, uint16_t ms)
 {
     struct in_place_window *w = &m->active_window;
 
-    if (w->stamp[n] != LATENCY_MONITOR_UNSET
-        && !(m->mode >> n & 1 && ms > w->latency[n] && m->time - m->load_time[n] >= 100u * m->minimum_window))
+    if (w->stamp_ms[n] != LATENCY_MONITOR_UNSET
+        && !(m->mode >> n & 1 && ms > w->latency_ms[n] && m->time_ms - m->load_time_ms[n] >= 100u * m->minimum_window))
         return false;
-    w->stamp[n] = m->clock;
-    w->latency[n] = ms;
-    w->units = (uint16_t)((w->units & ~(1u << n)) | (unsigned)m->host_set << n);
-    m->load_time[n] = m->time;
+    w->stamp_ms[n] = m->clock_ms;
+    w->latency_ms[n] = ms;
+    w->stamp_units = (uint16_t)((w->stamp_units & ~(1u << n)) | (unsigned)m->host_set << n);
+    m->load_time_ms[n] = m->time_ms;
     return true;
 }
 
@@ -167,10 +171,10 @@ static bool debug(struct in_place *m, unsigned n, uint16_t ms)
     if (m->debug_held || !(m->trigger >> n & 1))
         return false;
     m->debug_held = true;
-    m->debug_latency = ms;
+    m->debug_latency_ms = ms;
     m->debug_counter = (uint8_t)n;
-    m->debug_units = m->host_set;
-    m->debug_stamp = m->clock;
+    m->debug_stamp_units = m->host_set;
+    m->debug_stamp_ms = m->clock_ms;
     return true;
 }
 
@@ -216,8 +220,8 @@ static void count(struct in_place *m, unsigned at)
 #define COUNTED(n) ((uint64_t)(n) << AT(counter) | UINT64_C(1) << AT(counted))
 
 #ifdef LIMITS
-/* What a command adds to the place of its count: its kind's number from 0 on, or NO_KIND. The table has the exclusive or
- * with NO_KIND, so that what it does not name is of no kind. */
+/* What a command adds to the place of its count: its kind's number from 0 on, or NO_KIND. The table has the exclusive
+ * or with NO_KIND, so that what it does not name is of no kind. */
 static unsigned addend(unsigned command)
 {
     static const uint8_t table[2 * DEALLOCATE] = {
@@ -303,7 +307,7 @@ struct latency_monitor_completion_answer in_place_completion(
     union {
         uint64_t number;
         struct latency_monitor_completion_answer answer;
-    } u = {completed(m, command_number(&command), command.latency)};
+    } u = {completed(m, command_number(&command), command.latency_us)};
 
     return u.answer;
 }
@@ -313,13 +317,13 @@ static uint8_t stamp_reason(const struct in_place *m, unsigned n, uint16_t ms)
 {
     const struct in_place_window *w = &m->active_window;
 
-    if (w->stamp[n] == LATENCY_MONITOR_UNSET)
+    if (w->stamp_ms[n] == LATENCY_MONITOR_UNSET)
         return LATENCY_MONITOR_REASON_NONE;
     if (!(m->mode >> n & 1))
         return LATENCY_MONITOR_REASON_MODE_FIRST;
-    if (ms <= w->latency[n])
+    if (ms <= w->latency_ms[n])
         return LATENCY_MONITOR_REASON_NOT_LARGER;
-    if (m->time - m->load_time[n] < 100u * m->minimum_window)
+    if (m->time_ms - m->load_time_ms[n] < 100u * m->minimum_window)
         return LATENCY_MONITOR_REASON_MINIMUM_WINDOW;
     return LATENCY_MONITOR_REASON_NONE;
 }
@@ -327,7 +331,7 @@ static uint8_t stamp_reason(const struct in_place *m, unsigned n, uint16_t ms)
 uint8_t in_place_reason(const struct in_place *m, struct latency_monitor_command command)
 {
     unsigned kind = kind_of(command_number(&command));
-    uint32_t us = command.latency;
+    uint32_t us = command.latency_us;
 
     if (!m->enabled)
         return LATENCY_MONITOR_REASON_DISABLED;
@@ -338,24 +342,24 @@ uint8_t in_place_reason(const struct in_place *m, struct latency_monitor_command
     return stamp_reason(m, 3 * bucket_of(m, us) + kind - 1, milliseconds(us));
 }
 
-struct latency_monitor_elapsed_answer in_place_elapsed(struct in_place *m, uint32_t ms)
+struct latency_monitor_elapsed_answer in_place_elapsed(struct in_place *m, uint32_t elapsed_ms)
 {
     struct latency_monitor_elapsed_answer answer = {LATENCY_MONITOR_ACCEPTED, false};
 
-    if (ms > INCREMENT_MS) {
-        answer.refusal = LATENCY_MONITOR_ELAPSED_TIME;
+    if (elapsed_ms > INCREMENT_MS) {
+        answer.refusal = LATENCY_MONITOR_REFUSED_ELAPSED_TIME;
         return answer;
     }
-    m->clock += ms;
-    if (m->clock > CLOCK_TOP)
-        m->clock = CLOCK_TOP;
+    m->clock_ms += elapsed_ms;
+    if (m->clock_ms > CLOCK_TOP_MS)
+        m->clock_ms = CLOCK_TOP_MS;
     if (!m->enabled)
         return answer;
-    m->time += ms;
-    m->partial += ms;
-    if (m->partial < INCREMENT_MS)
+    m->time_ms += elapsed_ms;
+    m->partial_ms += elapsed_ms;
+    if (m->partial_ms < INCREMENT_MS)
         return answer;
-    m->partial -= INCREMENT_MS;
+    m->partial_ms -= INCREMENT_MS;
     if (++m->timer == m->timer_threshold) {
         m->timer = 0;
         m->static_window = m->active_window;
@@ -365,18 +369,18 @@ struct latency_monitor_elapsed_answer in_place_elapsed(struct in_place *m, uint3
     return answer;
 }
 
-uint8_t in_place_set_clock(struct in_place *m, uint64_t ms)
+uint8_t in_place_set_clock(struct in_place *m, uint64_t clock_ms)
 {
-    if (ms > CLOCK_TOP)
-        return LATENCY_MONITOR_CLOCK_VALUE;
-    m->clock = ms;
+    if (clock_ms > CLOCK_TOP_MS)
+        return LATENCY_MONITOR_REFUSED_CLOCK_VALUE;
+    m->clock_ms = clock_ms;
     m->host_set = true;
     return LATENCY_MONITOR_ACCEPTED;
 }
 
 uint8_t in_place_power_up(struct in_place *m)
 {
-    m->clock = 0;
+    m->clock_ms = 0;
     m->host_set = false;
     return LATENCY_MONITOR_ACCEPTED;
 }
@@ -404,27 +408,27 @@ static void put_window(uint8_t *p, const struct in_place_window *w)
         put32(p + 16 * b + 12, held(w->count[KINDS + 3 * b]));
     }
     for (int n = 0; n < LATENCY_MONITOR_COUNTERS; n++) {
-        put64(p + 64 + 8 * (LATENCY_MONITOR_COUNTERS - 1 - n), w->stamp[n]);
-        put16(p + 160 + 2 * (LATENCY_MONITOR_COUNTERS - 1 - n), w->latency[n]);
+        put64(p + 64 + 8 * (LATENCY_MONITOR_COUNTERS - 1 - n), w->stamp_ms[n]);
+        put16(p + 160 + 2 * (LATENCY_MONITOR_COUNTERS - 1 - n), w->latency_ms[n]);
     }
-    put16(p + 184, w->units);
+    put16(p + 184, w->stamp_units);
 }
 
 static void put_debug(uint8_t *p, const struct in_place *m)
 {
     put64(p + 452, LATENCY_MONITOR_UNSET);
     if (m->debug_held) {
-        put16(p + 450, m->debug_latency);
-        put64(p + 452, m->debug_stamp);
+        put16(p + 450, m->debug_latency_ms);
+        put64(p + 452, m->debug_stamp_ms);
         put16(p + 462, (uint16_t)(1u << m->debug_counter));
-        p[464] = m->debug_units;
+        p[464] = m->debug_stamp_units;
     }
 }
 
 uint8_t in_place_page(const struct in_place *m, uint8_t *p, size_t length)
 {
     if (length != LATENCY_MONITOR_PAGE_LENGTH)
-        return LATENCY_MONITOR_PAGE_LENGTH_WRONG;
+        return LATENCY_MONITOR_REFUSED_PAGE_LENGTH;
     memset(p, 0, length);
     p[0] = m->enabled;
     put16(p + 2, m->timer);
@@ -444,7 +448,7 @@ uint8_t in_place_page(const struct in_place *m, uint8_t *p, size_t length)
 uint8_t in_place_settings_back(const struct in_place *m, uint8_t *s, size_t length)
 {
     if (length != LATENCY_MONITOR_SETTINGS_LENGTH)
-        return LATENCY_MONITOR_SETTINGS_BACK_LENGTH;
+        return LATENCY_MONITOR_REFUSED_SETTINGS_BACK_LENGTH;
     memset(s, 0, length);
     put16(s, m->timer_threshold);
     memcpy(s + 2, m->thresholds, sizeof m->thresholds);
@@ -474,7 +478,7 @@ static bool window_fits(const uint8_t *p)
         for (int kind = 0; kind < 3; kind++, n++) {
             int from_last = LATENCY_MONITOR_COUNTERS - 1 - n;
             uint64_t stamp = get64(p + 64 + 8 * from_last);
-            if (stamp <= CLOCK_TOP)
+            if (stamp <= CLOCK_TOP_MS)
                 continue;
             if (stamp != LATENCY_MONITOR_UNSET || get32(p + 16 * b + 12 - 4 * kind)
                 || get16(p + 160 + 2 * from_last) || units >> n & 1)
@@ -494,7 +498,7 @@ static bool debug_fits(const uint8_t *p)
         return false;
     if (stamp == LATENCY_MONITOR_UNSET)
         return (get16(p + 450) | source | p[464]) == 0;
-    return stamp <= CLOCK_TOP && p[464] <= 1 && source && (source & (source - 1)) == 0
+    return stamp <= CLOCK_TOP_MS && p[464] <= 1 && source && (source & (source - 1)) == 0
         && source >> LATENCY_MONITOR_COUNTERS == 0;
 }
 
@@ -513,31 +517,31 @@ static void get_window(struct in_place_window *w, const uint8_t *p)
         w->count[KINDS + 3 * b] = get32(p + 16 * b + 12);
     }
     for (int n = 0; n < LATENCY_MONITOR_COUNTERS; n++) {
-        w->stamp[n] = get64(p + 64 + 8 * (LATENCY_MONITOR_COUNTERS - 1 - n));
-        w->latency[n] = get16(p + 160 + 2 * (LATENCY_MONITOR_COUNTERS - 1 - n));
+        w->stamp_ms[n] = get64(p + 64 + 8 * (LATENCY_MONITOR_COUNTERS - 1 - n));
+        w->latency_ms[n] = get16(p + 160 + 2 * (LATENCY_MONITOR_COUNTERS - 1 - n));
     }
-    w->units = get16(p + 184);
+    w->stamp_units = get16(p + 184);
 }
 
 static void get_debug(struct in_place_reading *r, const uint8_t *p)
 {
     unsigned source = get16(p + 462);
 
-    r->debug_stamp = get64(p + 452);
-    r->debug_held = r->debug_stamp != LATENCY_MONITOR_UNSET;
-    r->debug_latency = get16(p + 450);
-    r->debug_units = p[464];
+    r->debug_stamp_ms = get64(p + 452);
+    r->debug_held = r->debug_stamp_ms != LATENCY_MONITOR_UNSET;
+    r->debug_latency_ms = get16(p + 450);
+    r->debug_stamp_units = p[464];
     r->debug_counter = source ? (uint8_t)__builtin_ctz(source) : 0;
 }
 
 uint8_t in_place_read_page(struct in_place_reading *r, const uint8_t *p, size_t length)
 {
     if (length != LATENCY_MONITOR_PAGE_LENGTH)
-        return LATENCY_MONITOR_READ_LENGTH_WRONG;
+        return LATENCY_MONITOR_REFUSED_READ_LENGTH;
     if (get16(p + 494) != VERSION || memcmp(p + 496, guid, sizeof guid) != 0)
-        return LATENCY_MONITOR_READ_IDENTITY;
+        return LATENCY_MONITOR_REFUSED_READ_IDENTITY;
     if (!page_fits(p))
-        return LATENCY_MONITOR_READ_LAYOUT;
+        return LATENCY_MONITOR_REFUSED_READ_LAYOUT;
     r->enabled = p[0];
     r->timer = get16(p + 2);
     r->timer_threshold = get16(p + 4);

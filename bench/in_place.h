@@ -12,7 +12,7 @@
 
 #include "latency_monitor.h"
 
-enum { KINDS = 3 };
+enum { KINDS = LATENCY_MONITOR_KINDS };
 
 /* The counts of a window: those below A, the counters, and with LIMITS those of no kind. */
 #ifdef LIMITS
@@ -24,10 +24,10 @@ enum { COUNTS = KINDS + LATENCY_MONITOR_COUNTERS };
 #endif
 
 struct in_place_window {
-    uint64_t stamp[LATENCY_MONITOR_COUNTERS];
+    uint64_t stamp_ms[LATENCY_MONITOR_COUNTERS];
     in_place_count count[COUNTS];
-    uint16_t latency[LATENCY_MONITOR_COUNTERS];
-    uint16_t units; /* bit n for counter n */
+    uint16_t latency_ms[LATENCY_MONITOR_COUNTERS];
+    uint16_t stamp_units; /* bit n for counter n */
 };
 
 struct in_place {
@@ -43,15 +43,15 @@ struct in_place {
     bool enabled;
     bool host_set;
     bool debug_held;
-    bool debug_units;
+    bool debug_stamp_units;
     uint8_t debug_counter;
-    uint16_t debug_latency;
-    uint64_t debug_stamp;
-    uint64_t clock;
-    uint64_t time; /* ms measured since settings with enable 1 were last accepted */
-    uint32_t partial;
+    uint16_t debug_latency_ms;
+    uint64_t debug_stamp_ms;
+    uint64_t clock_ms;
+    uint64_t time_ms; /* measured since settings with enable 1 were last accepted */
+    uint32_t partial_ms;
     uint16_t timer;
-    uint64_t load_time[LATENCY_MONITOR_COUNTERS]; /* the time at the stamp's last load */
+    uint64_t load_time_ms[LATENCY_MONITOR_COUNTERS]; /* the time at the stamp's last load */
     struct in_place_window active_window;
     struct in_place_window static_window;
 };
@@ -66,10 +66,10 @@ struct in_place_reading {
     uint8_t minimum_window;
     bool enabled;
     bool debug_held;
-    bool debug_units;
+    bool debug_stamp_units;
     uint8_t debug_counter;
-    uint16_t debug_latency;
-    uint64_t debug_stamp;
+    uint16_t debug_latency_ms;
+    uint64_t debug_stamp_ms;
     struct in_place_window active_window;
     struct in_place_window static_window;
 };
@@ -78,8 +78,8 @@ void in_place_new(struct in_place *m);
 uint8_t in_place_configure(struct in_place *m, const uint8_t *settings, size_t length);
 struct latency_monitor_completion_answer in_place_completion(
     struct in_place *m, struct latency_monitor_command command);
-struct latency_monitor_elapsed_answer in_place_elapsed(struct in_place *m, uint32_t ms);
-uint8_t in_place_set_clock(struct in_place *m, uint64_t ms);
+struct latency_monitor_elapsed_answer in_place_elapsed(struct in_place *m, uint32_t elapsed_ms);
+uint8_t in_place_set_clock(struct in_place *m, uint64_t clock_ms);
 uint8_t in_place_power_up(struct in_place *m);
 struct latency_monitor_below_a in_place_active_below_a(const struct in_place *m);
 struct latency_monitor_below_a in_place_static_below_a(const struct in_place *m);

@@ -1,8 +1,8 @@
 #!/usr/bin/env bash
 # Measures the page program against the same job in C, and `explain`, asked about the last record, against the page
-# program: on 400 MB of mixed events; and on 192 MB each of Reads that all load the stamp of one counter, of elapsed time
-# that always ends the window, and of records that are all refused; each with a completion at the end. The files are long
-# because times are whole ms.
+# program: on 400 MB of mixed events; and on 192 MB each of Reads that all load the stamp of one counter, of elapsed
+# time that always ends the window, and of records that are all refused; each with a completion at the end. The files
+# are long because times are whole ms.
 #   bench/page.sh [ROUNDS]
 # In a short first pass over every C the fastest of each form is found, for each file; these take turns with the
 # programs. Prints the median processor times, the ratio of throughputs (the page program's to C's) and the ratio of

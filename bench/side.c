@@ -48,8 +48,8 @@ static uint64_t once(const struct stroke *s)
     case NEW: CALL(new)(&record); return 0;
     case CONFIGURE: return CALL(configure)(&record, whole(&s->settings), sizeof settings);
     case COMPLETION: return completion_number(CALL(completion)(&record, s->command));
-    case ELAPSED: return elapsed_number(CALL(elapsed)(&record, s->ms));
-    case SET_CLOCK: return CALL(set_clock)(&record, s->clock);
+    case ELAPSED: return elapsed_number(CALL(elapsed)(&record, s->elapsed_ms));
+    case SET_CLOCK: return CALL(set_clock)(&record, s->clock_ms);
     case POWER_UP: return CALL(power_up)(&record);
     case ACTIVE_BELOW_A: return below_a_number(CALL(active_below_a)(&record));
     case STATIC_BELOW_A: return below_a_number(CALL(static_below_a)(&record));
@@ -76,8 +76,8 @@ LAP(empty_number_lap, empty_number(&record))
 LAP(new_lap, (CALL(new)(&record), 0u))
 LAP(configure_lap, CALL(configure)(&record, whole(&w->settings[i]), sizeof settings))
 LAP(completion_lap, completion_number(CALL(completion)(&record, w->commands[i])))
-LAP(elapsed_lap, elapsed_number(CALL(elapsed)(&record, w->ms[i])))
-LAP(set_clock_lap, CALL(set_clock)(&record, w->clocks[i]))
+LAP(elapsed_lap, elapsed_number(CALL(elapsed)(&record, w->elapsed_ms[i])))
+LAP(set_clock_lap, CALL(set_clock)(&record, w->clocks_ms[i]))
 LAP(power_up_lap, CALL(power_up)(&record))
 LAP(active_below_a_lap, below_a_number(CALL(active_below_a)(&record)))
 LAP(static_below_a_lap, below_a_number(CALL(static_below_a)(&record)))
@@ -128,10 +128,10 @@ static void take_over(void)
     record.minimum_window = reading.minimum_window;
     record.enabled = reading.enabled;
     record.debug_held = reading.debug_held;
-    record.debug_units = reading.debug_units;
+    record.debug_stamp_units = reading.debug_stamp_units;
     record.debug_counter = reading.debug_counter;
-    record.debug_latency = reading.debug_latency;
-    record.debug_stamp = reading.debug_stamp;
+    record.debug_latency_ms = reading.debug_latency_ms;
+    record.debug_stamp_ms = reading.debug_stamp_ms;
     record.active_window = reading.active_window;
     record.static_window = reading.static_window;
 }

@@ -29,8 +29,8 @@ struct work {
     size_t calls;
     size_t orders; /* laps with inputs of their own, taken in turn */
     const struct latency_monitor_command *commands;
-    const uint32_t *ms;
-    const uint64_t *clocks;
+    const uint32_t *elapsed_ms;
+    const uint64_t *clocks_ms;
     const struct named_settings *settings;
     const struct log_page *pages;
     uint16_t mode;    /* of the monitor that is called */
@@ -48,8 +48,8 @@ enum { WRITE_AT = 20, DEALLOCATE_AT = 40 };
 struct stroke {
     enum call call;
     struct latency_monitor_command command;
-    uint32_t ms;
-    uint64_t clock;
+    uint32_t elapsed_ms;
+    uint64_t clock_ms;
     struct named_settings settings;
     const struct log_page *page;
 };

@@ -1,6 +1,6 @@
 #!/usr/bin/env bash
-# Measures code, constants and data: of the product's archive beside the monitor in C, and of the programs. Then it shows
-# the product's constants.
+# Measures code, constants and data: of the product's archive beside the monitor in C, and of the programs. Then it
+# shows the product's constants.
 #   bench/sizes.sh
 # Fails if the archive has data of its own.
 set -euo pipefail

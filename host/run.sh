@@ -54,9 +54,10 @@ echo "host: header and example"
 checks=(-Wall -Wextra -Werror -pedantic -I "$top/include")
 g++ -std=c++11 "${checks[@]}" -fsyntax-only -x c++ "$header"
 g++ -std=c++17 "${checks[@]}" -fsyntax-only -x c++ "$header"
+gcc -std=c11 "${checks[@]}" -fsyntax-only -x c "$header"
 # 32 bits, with 64-bit numbers aligned as on Arm and RISC-V.
 gcc -std=c11 "${checks[@]}" -fsyntax-only -m32 -malign-double -ffreestanding -x c "$header"
-gcc -std=c11 "${checks[@]}" -O2 -o "$CARGO_TARGET_DIR/example" "$top/host/c/example.c" "$archive"
+gcc -std=c99 "${checks[@]}" -O2 -o "$CARGO_TARGET_DIR/example" "$top/host/c/example.c" "$archive"
 "$CARGO_TARGET_DIR/example" | cmp - "$top/crates/page/stdout"
 
 echo "host: the reference"

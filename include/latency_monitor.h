@@ -1,6 +1,6 @@
 /*
  * The latency monitor: a drive's slow commands in latency buckets, and log page C3h of the OCP Datacenter NVMe SSD
- * Specification 2.5. For C11 and C++11.
+ * Specification 2.5. For C99 and C++11.
  *
  * Firmware keeps one record for each drive and lends it for each call. There is no allocation and no state but the
  * record, so calls on distinct records may run at the same time. Calls on one record must not, those of interrupt
@@ -10,9 +10,12 @@
  * A call that is turned away answers with its refusal number and leaves record and buffer as they were. Any number may
  * be passed, and a buffer of any length, with its own length beside it. No pointer may be null.
  *
+ * A name that ends in _us or _ms has that unit. The timer, its threshold, thresholds A to D and the minimum window are
+ * in the specification's own units, which stand beside them.
+ *
  * The archive runs on x86-64, with the calling convention of System V:
  *
- *     cc -std=c11 -I include firmware.c liblatency_monitor.a
+ *     cc -std=c99 -I include firmware.c liblatency_monitor.a
  *
  * It asks the firmware for memcpy and memset, and a call takes at most 1,264 bytes of stack beside what those take. It
  * uses SSE2 registers and the red zone (128 bytes below the stack pointer), so it is not for code that must do without.
@@ -28,16 +31,39 @@
 #include <stddef.h>
 #include <stdint.h>
 
-#ifdef __cplusplus
+#if defined __cplusplus
 extern "C" {
-#define LATENCY_MONITOR_ASSERT static_assert
-#else
-#define LATENCY_MONITOR_ASSERT _Static_assert
+#define LATENCY_MONITOR_ASSERT(holds, what) static_assert(holds, what)
+#elif __STDC_VERSION__ >= 201112L
+#define LATENCY_MONITOR_ASSERT(holds, what) _Static_assert(holds, what)
+#else /* no array has the length -1 */
+#define LATENCY_MONITOR_ASSERT(holds, what) extern char latency_monitor_layout[(holds) ? 1 : -1]
 #endif
 
-/* Counters stand by number, 3 x bucket + kind: buckets 0 to 3 have thresholds A to D, and the kind is Read (0), Write
- * (1) or Deallocate (2). */
+/* What a command does. */
+#define LATENCY_MONITOR_KINDS 3
+enum latency_monitor_kind {
+    LATENCY_MONITOR_KIND_READ = 0,
+    LATENCY_MONITOR_KIND_WRITE = 1,
+    LATENCY_MONITOR_KIND_DEALLOCATE = 2
+};
+
+/* Counters stand by number, 3 x bucket + kind: buckets 0 to 3 have thresholds A to D. */
 #define LATENCY_MONITOR_COUNTERS 12
+
+/* The opcodes of commands that have a kind; the last two have it with their deallocate attribute or bit alone. */
+enum latency_monitor_opcode {
+    LATENCY_MONITOR_OPCODE_READ = 0x02,
+    LATENCY_MONITOR_OPCODE_WRITE = 0x01,
+    LATENCY_MONITOR_OPCODE_DATASET_MANAGEMENT = 0x09,
+    LATENCY_MONITOR_OPCODE_WRITE_ZEROES = 0x08
+};
+
+/* The increment of the Active Bucket Timer, five minutes; no call of latency_monitor_elapsed takes more. */
+#define LATENCY_MONITOR_INCREMENT_MS UINT32_C(300000)
+
+/* 2^48: the clock, and a latency stamp that is set, are below it. */
+#define LATENCY_MONITOR_CLOCK_LIMIT_MS UINT64_C(281474976710656)
 
 /* A latency stamp that is not set. */
 #define LATENCY_MONITOR_UNSET UINT64_C(0xffffffffffffffff)
@@ -58,22 +84,23 @@ extern "C" {
 /* Changes when the record does. */
 #define LATENCY_MONITOR_RECORD_VERSION 2
 
-/* Why a call is turned away; the first that applies is the answer. 11 and 12 are of event files: no call has them. */
+/* Why a call is turned away; the first that applies is the answer. No call has 11 and 12, which are of event files, or
+ * 16, which is of the program `explain`. */
 enum latency_monitor_refusal {
     LATENCY_MONITOR_ACCEPTED = 0,
-    LATENCY_MONITOR_SETTINGS_LENGTH_WRONG = 1, /* settings are not 4,096 bytes */
-    LATENCY_MONITOR_RESERVED_BYTE = 2,         /* a settings byte from 13 on is not zero */
-    LATENCY_MONITOR_FLAG_ABOVE_ONE = 3,        /* discard or enable is above 1 */
-    LATENCY_MONITOR_NO_TIMER_THRESHOLD = 4,    /* the timer threshold is 0 */
-    LATENCY_MONITOR_THRESHOLD_ORDER = 5,       /* A is above B, B above C, or C above D */
-    LATENCY_MONITOR_RESERVED_BIT = 6,          /* bit 12 to 15 of mode or trigger is set */
-    LATENCY_MONITOR_ELAPSED_TIME = 7,          /* elapsed time is above 300,000 ms */
-    LATENCY_MONITOR_CLOCK_VALUE = 8,           /* the clock is 2^48 ms or more */
-    LATENCY_MONITOR_PAGE_LENGTH_WRONG = 9,     /* the page's buffer is not 512 bytes */
-    LATENCY_MONITOR_SETTINGS_BACK_LENGTH = 10, /* the settings' buffer is not 4,096 bytes */
-    LATENCY_MONITOR_READ_LENGTH_WRONG = 13,    /* the page to be read is not 512 bytes */
-    LATENCY_MONITOR_READ_IDENTITY = 14,        /* its version or GUID is not that of log page C3h */
-    LATENCY_MONITOR_READ_LAYOUT = 15           /* it breaks a rule of the layout */
+    LATENCY_MONITOR_REFUSED_SETTINGS_LENGTH = 1,       /* settings are not 4,096 bytes */
+    LATENCY_MONITOR_REFUSED_RESERVED_BYTE = 2,         /* a settings byte from 13 on is not zero */
+    LATENCY_MONITOR_REFUSED_FLAG_ABOVE_ONE = 3,        /* discard or enable is above 1 */
+    LATENCY_MONITOR_REFUSED_NO_TIMER_THRESHOLD = 4,    /* the timer threshold is 0 */
+    LATENCY_MONITOR_REFUSED_THRESHOLD_ORDER = 5,       /* A is above B, B above C, or C above D */
+    LATENCY_MONITOR_REFUSED_RESERVED_BIT = 6,          /* bit 12 to 15 of mode or trigger is set */
+    LATENCY_MONITOR_REFUSED_ELAPSED_TIME = 7,          /* elapsed time is above LATENCY_MONITOR_INCREMENT_MS */
+    LATENCY_MONITOR_REFUSED_CLOCK_VALUE = 8,           /* the clock is LATENCY_MONITOR_CLOCK_LIMIT_MS or more */
+    LATENCY_MONITOR_REFUSED_PAGE_LENGTH = 9,           /* the page's buffer is not 512 bytes */
+    LATENCY_MONITOR_REFUSED_SETTINGS_BACK_LENGTH = 10, /* the settings' buffer is not 4,096 bytes */
+    LATENCY_MONITOR_REFUSED_READ_LENGTH = 13,          /* the page to be read is not 512 bytes */
+    LATENCY_MONITOR_REFUSED_READ_IDENTITY = 14,        /* its version or GUID is not that of log page C3h */
+    LATENCY_MONITOR_REFUSED_READ_LAYOUT = 15           /* it breaks a rule of the layout */
 };
 
 /* Why a command would not load a latency stamp; the lowest that applies is the answer. 4 to 6 are of a stamp that is
@@ -101,17 +128,17 @@ struct latency_monitor_settings {
 /* A window, by counter number. */
 struct latency_monitor_window {
     uint32_t counters[LATENCY_MONITOR_COUNTERS];
-    uint64_t stamps[LATENCY_MONITOR_COUNTERS];
-    uint16_t latencies[LATENCY_MONITOR_COUNTERS]; /* measured latencies, in ms */
-    bool units[LATENCY_MONITOR_COUNTERS];         /* stamp units: whether the host had set the clock */
+    uint64_t stamps_ms[LATENCY_MONITOR_COUNTERS];    /* latency stamps, LATENCY_MONITOR_UNSET where not set */
+    uint16_t latencies_ms[LATENCY_MONITOR_COUNTERS]; /* measured latencies */
+    bool stamp_units[LATENCY_MONITOR_COUNTERS];      /* whether the host had set the clock */
 };
 
 /* The debug log; none is held while its stamp is LATENCY_MONITOR_UNSET. */
 struct latency_monitor_debug_log {
-    uint64_t stamp;
-    uint16_t latency;
+    uint64_t stamp_ms;
+    uint16_t latency_ms;
     uint16_t source; /* the counter, as one set bit */
-    bool units;
+    bool stamp_units;
 };
 
 /*
@@ -125,13 +152,13 @@ struct latency_monitor_debug_log {
  */
 struct latency_monitor {
     struct latency_monitor_settings settings;
-    uint16_t timer;   /* Active Bucket Timer, in increments of five minutes */
-    bool host_set;    /* whether the host set the clock */
-    uint32_t partial; /* time since the timer's last increment, in ms */
-    uint32_t static_below_a[3]; /* by kind: completions below threshold A in the static window */
-    uint32_t active_below_a[3]; /* and in the active window */
-    uint64_t clock;   /* in ms */
-    uint64_t loaded[LATENCY_MONITOR_COUNTERS]; /* time in the active window at the stamp's last load, in ms */
+    uint16_t timer;      /* Active Bucket Timer, in increments of five minutes */
+    bool host_set;       /* whether the host set the clock */
+    uint32_t partial_ms; /* time since the timer's last increment */
+    uint32_t static_below_a[LATENCY_MONITOR_KINDS]; /* by kind: completions below threshold A in the static window */
+    uint32_t active_below_a[LATENCY_MONITOR_KINDS]; /* and in the active window */
+    uint64_t clock_ms;
+    uint64_t loaded_ms[LATENCY_MONITOR_COUNTERS]; /* time in the active window at the stamp's last load */
     struct latency_monitor_debug_log debug;
     struct latency_monitor_window static_window;
     struct latency_monitor_window active_window;
@@ -154,14 +181,13 @@ struct latency_monitor_reading {
 };
 
 /*
- * A completed command. Opcode 02h is Read and 01h is Write; 09h (Dataset Management) and 08h (Write Zeroes) are
- * Deallocate if they have the deallocate attribute or bit, and are not counted without it. An initialiser that leaves
- * the field out brings none.
+ * A completed command. Dataset Management and Write Zeroes are Deallocate if they have the deallocate attribute or bit,
+ * and are not counted without it. An initialiser that leaves the field out sets it to false.
  */
 struct latency_monitor_command {
-    uint32_t latency; /* in microseconds */
-    uint8_t opcode;
-    bool deallocate;  /* attribute of Dataset Management, bit of Write Zeroes; not asked of other commands */
+    uint32_t latency_us;
+    uint8_t opcode;  /* enum latency_monitor_opcode, or any other */
+    bool deallocate; /* attribute of Dataset Management, bit of Write Zeroes; not asked of other commands */
 };
 
 /* The answer to a completion. */
@@ -198,11 +224,11 @@ uint8_t latency_monitor_configure(struct latency_monitor *monitor, const uint8_t
 struct latency_monitor_completion_answer latency_monitor_completion(
     struct latency_monitor *monitor, struct latency_monitor_command command);
 
-/* Lets time pass, at most 300,000 ms a call; turned away by 7. A longer time is to be split. */
-struct latency_monitor_elapsed_answer latency_monitor_elapsed(struct latency_monitor *monitor, uint32_t ms);
+/* Lets time pass, at most LATENCY_MONITOR_INCREMENT_MS a call; turned away by 7. More is to be split. */
+struct latency_monitor_elapsed_answer latency_monitor_elapsed(struct latency_monitor *monitor, uint32_t elapsed_ms);
 
-/* The host sets the clock, in ms, below 2^48; turned away by 8. */
-uint8_t latency_monitor_set_clock(struct latency_monitor *monitor, uint64_t ms);
+/* The host sets the clock, below LATENCY_MONITOR_CLOCK_LIMIT_MS; turned away by 8. */
+uint8_t latency_monitor_set_clock(struct latency_monitor *monitor, uint64_t clock_ms);
 
 /* The drive powered up: the clock is 0, and not the host's, and all else is kept. Never turned away. */
 uint8_t latency_monitor_power_up(struct latency_monitor *monitor);
@@ -234,10 +260,10 @@ uint8_t latency_monitor_settings_back(const struct latency_monitor *monitor, uin
  *   - Bytes 2 to 9 (timer, timer threshold, thresholds) and 12 (minimum window) may hold anything.
  *   - Byte 0 (enabled) and the stamp units of the debug log are 0 or 1. Bits 12 to 15 of mode, trigger and the windows'
  *     stamp units are zero, as are the debug log's pointer and every byte that no field has.
- *   - A counter's stamp is below 2^48, or it is LATENCY_MONITOR_UNSET, and then the counter, its measured latency and
- *     its stamp units are zero.
- *   - The debug log's stamp is below 2^48, and its source has one bit of 0 to 11 set and no other; or the stamp is
- *     LATENCY_MONITOR_UNSET, and measured latency, source and stamp units are zero.
+ *   - A counter's stamp is below LATENCY_MONITOR_CLOCK_LIMIT_MS, or it is LATENCY_MONITOR_UNSET, and then the counter,
+ *     its measured latency and its stamp units are zero.
+ *   - The debug log's stamp is below LATENCY_MONITOR_CLOCK_LIMIT_MS, and its source has one bit of 0 to 11 set and no
+ *     other; or the stamp is LATENCY_MONITOR_UNSET, and measured latency, source and stamp units are zero.
  *
  * So each page that latency_monitor_page writes is accepted. Others are too: thresholds may be out of order, and a
  * stamp be set where the counter is 0.
@@ -261,25 +287,25 @@ LATENCY_MONITOR_AT(latency_monitor_settings, enabled, 11);
 
 LATENCY_MONITOR_SIZE(latency_monitor_window, 184);
 LATENCY_MONITOR_AT(latency_monitor_window, counters, 0);
-LATENCY_MONITOR_AT(latency_monitor_window, stamps, 48);
-LATENCY_MONITOR_AT(latency_monitor_window, latencies, 144);
-LATENCY_MONITOR_AT(latency_monitor_window, units, 168);
+LATENCY_MONITOR_AT(latency_monitor_window, stamps_ms, 48);
+LATENCY_MONITOR_AT(latency_monitor_window, latencies_ms, 144);
+LATENCY_MONITOR_AT(latency_monitor_window, stamp_units, 168);
 
 LATENCY_MONITOR_SIZE(latency_monitor_debug_log, 16);
-LATENCY_MONITOR_AT(latency_monitor_debug_log, stamp, 0);
-LATENCY_MONITOR_AT(latency_monitor_debug_log, latency, 8);
+LATENCY_MONITOR_AT(latency_monitor_debug_log, stamp_ms, 0);
+LATENCY_MONITOR_AT(latency_monitor_debug_log, latency_ms, 8);
 LATENCY_MONITOR_AT(latency_monitor_debug_log, source, 10);
-LATENCY_MONITOR_AT(latency_monitor_debug_log, units, 12);
+LATENCY_MONITOR_AT(latency_monitor_debug_log, stamp_units, 12);
 
 LATENCY_MONITOR_SIZE(latency_monitor, 536);
 LATENCY_MONITOR_AT(latency_monitor, settings, 0);
 LATENCY_MONITOR_AT(latency_monitor, timer, 12);
 LATENCY_MONITOR_AT(latency_monitor, host_set, 14);
-LATENCY_MONITOR_AT(latency_monitor, partial, 16);
+LATENCY_MONITOR_AT(latency_monitor, partial_ms, 16);
 LATENCY_MONITOR_AT(latency_monitor, static_below_a, 20);
 LATENCY_MONITOR_AT(latency_monitor, active_below_a, 32);
-LATENCY_MONITOR_AT(latency_monitor, clock, 48);
-LATENCY_MONITOR_AT(latency_monitor, loaded, 56);
+LATENCY_MONITOR_AT(latency_monitor, clock_ms, 48);
+LATENCY_MONITOR_AT(latency_monitor, loaded_ms, 56);
 LATENCY_MONITOR_AT(latency_monitor, debug, 152);
 LATENCY_MONITOR_AT(latency_monitor, static_window, 168);
 LATENCY_MONITOR_AT(latency_monitor, active_window, 352);
@@ -297,7 +323,7 @@ LATENCY_MONITOR_AT(latency_monitor_reading, debug_held, 400);
 LATENCY_MONITOR_AT(latency_monitor_reading, debug_counter, 401);
 
 LATENCY_MONITOR_SIZE(latency_monitor_command, 8);
-LATENCY_MONITOR_AT(latency_monitor_command, latency, 0);
+LATENCY_MONITOR_AT(latency_monitor_command, latency_us, 0);
 LATENCY_MONITOR_AT(latency_monitor_command, opcode, 4);
 LATENCY_MONITOR_AT(latency_monitor_command, deallocate, 5);
 

@@ -24,19 +24,19 @@ static void configure(void)
 
     settings[LATENCY_MONITOR_SETTINGS_TIMER_THRESHOLD] = 2;
     memcpy(settings + LATENCY_MONITOR_SETTINGS_THRESHOLDS, thresholds, sizeof thresholds);
-    settings[LATENCY_MONITOR_SETTINGS_TRIGGER] = 1; /* of counter 0 */
+    settings[LATENCY_MONITOR_SETTINGS_TRIGGER] = 1 << LATENCY_MONITOR_KIND_READ; /* of the Reads in bucket 0 */
     settings[LATENCY_MONITOR_SETTINGS_ENABLE] = 1;
     expect(latency_monitor_configure(&monitor, settings, sizeof settings) == LATENCY_MONITOR_ACCEPTED, "settings");
 }
 
 static void complete_a_read(void)
 {
-    const struct latency_monitor_command command = {.opcode = 0x02, .latency = 7500};
+    const struct latency_monitor_command command = {.opcode = LATENCY_MONITOR_OPCODE_READ, .latency_us = 7500};
     const uint8_t reason = latency_monitor_reason(&monitor, command);
     const struct latency_monitor_completion_answer answer = latency_monitor_completion(&monitor, command);
 
     expect(reason == LATENCY_MONITOR_REASON_NONE, "nothing keeps the Read from loading its latency stamp");
-    expect(answer.counted && answer.counter == 0, "the Read counts in bucket 0");
+    expect(answer.counted && answer.counter == LATENCY_MONITOR_KIND_READ, "the Read counts in bucket 0");
     expect(answer.loaded, "its latency stamp is loaded");
     expect(answer.debug, "a debug log is taken");
 }
@@ -49,7 +49,7 @@ static void complete_without_a_counter(struct latency_monitor_command command, c
 /* A slower Read would be counted, and not be seen in the stamp. */
 static void ask_for_the_reason(void)
 {
-    const struct latency_monitor_command slower = {.opcode = 0x02, .latency = 9000};
+    const struct latency_monitor_command slower = {.opcode = LATENCY_MONITOR_OPCODE_READ, .latency_us = 9000};
 
     expect(latency_monitor_reason(&monitor, slower) == LATENCY_MONITOR_REASON_MODE_FIRST,
         "in mode first the stamp stays that of the first Read");
@@ -59,9 +59,11 @@ static void ask_for_the_reason(void)
 /* No counter has them, and no page shows them. */
 static void complete_others(void)
 {
-    const struct latency_monitor_command read = {.opcode = 0x02, .latency = 300};
-    const struct latency_monitor_command write_zeroes = {.opcode = 0x08, .deallocate = true, .latency = 300};
-    const struct latency_monitor_command without = {.opcode = 0x09, .deallocate = false, .latency = 7500};
+    const struct latency_monitor_command read = {.opcode = LATENCY_MONITOR_OPCODE_READ, .latency_us = 300};
+    const struct latency_monitor_command write_zeroes = {
+        .opcode = LATENCY_MONITOR_OPCODE_WRITE_ZEROES, .deallocate = true, .latency_us = 300};
+    const struct latency_monitor_command without = {
+        .opcode = LATENCY_MONITOR_OPCODE_DATASET_MANAGEMENT, .deallocate = false, .latency_us = 7500};
 
     complete_without_a_counter(read, "a Read below threshold A has no counter");
     complete_without_a_counter(write_zeroes, "a Deallocate below threshold A has no counter");
@@ -93,7 +95,7 @@ static void power_cycle(void)
     expect(kept.version == LATENCY_MONITOR_RECORD_VERSION, "the record's version");
     memcpy(&monitor, kept.record, sizeof monitor);
     expect(latency_monitor_power_up(&monitor) == LATENCY_MONITOR_ACCEPTED, "power-up");
-    expect(monitor.clock == 0, "the clock starts anew");
+    expect(monitor.clock_ms == 0, "the clock starts anew");
 }
 
 static void read_back(const uint8_t *page)
@@ -104,10 +106,11 @@ static void read_back(const uint8_t *page)
     expect(latency_monitor_read_page(&reading, page, LATENCY_MONITOR_PAGE_LENGTH) == LATENCY_MONITOR_ACCEPTED,
         "the page is read");
     expect(shown->settings.enabled && shown->settings.timer_threshold == 2, "the page shows the settings");
-    expect(shown->active_window.counters[0] == 1 && shown->active_window.latencies[0] == 7, "the page shows the Read");
-    expect(shown->static_window.stamps[0] == LATENCY_MONITOR_UNSET, "the static window is empty");
+    expect(shown->active_window.counters[0] == 1 && shown->active_window.latencies_ms[0] == 7,
+        "the page shows the Read");
+    expect(shown->static_window.stamps_ms[0] == LATENCY_MONITOR_UNSET, "the static window is empty");
     expect(reading.debug_held && reading.debug_counter == 0, "the page shows the debug log");
-    expect(latency_monitor_read_page(&reading, page, 511) == LATENCY_MONITOR_READ_LENGTH_WRONG,
+    expect(latency_monitor_read_page(&reading, page, 511) == LATENCY_MONITOR_REFUSED_READ_LENGTH,
         "511 bytes are read as no page");
     expect(!reading.debug_held, "nothing is left of the page before");
 }
@@ -143,7 +146,8 @@ int main(void)
     compare_counts();
 
     expect(latency_monitor_page(&monitor, page, sizeof page) == LATENCY_MONITOR_ACCEPTED, "the page");
-    expect(latency_monitor_page(&monitor, page, 511) == LATENCY_MONITOR_PAGE_LENGTH_WRONG, "a page of 511 bytes");
+    expect(latency_monitor_page(&monitor, page, sizeof page - 1) == LATENCY_MONITOR_REFUSED_PAGE_LENGTH,
+        "a page of 511 bytes");
     print(page);
     read_back(page);
     return EXIT_SUCCESS;

@@ -1,13 +1,10 @@
 //! Random calls, most of them near the places where the rules change their mind.
 
+use latency_monitor::opcodes::{DATASET_MANAGEMENT, READ, WRITE, WRITE_ZEROES};
 use reference::facts::{in_force, window_time};
 use reference::history::{Call, Command, Settings, Window, INCREMENT_MS, PAGE_LENGTH, SETTINGS_LENGTH, TIMESTAMP_TOP};
 use reference::random::Random;
 
-const READ: u8 = 0x02;
-const WRITE: u8 = 0x01;
-const DATASET_MANAGEMENT: u8 = 0x09;
-const WRITE_ZEROES: u8 = 0x08;
 pub const OPCODES: [u8; 4] = [READ, WRITE, DATASET_MANAGEMENT, WRITE_ZEROES];
 /// Every command that is a Read, Write or Deallocate.
 pub const OF_A_KIND: [Command; 6] = [

@@ -47,14 +47,14 @@ pub fn call(monitor: &mut Monitor, call: &Call, due: Answer, facts: &Facts, salt
 /// stamp that is set.
 pub fn reason(monitor: &Monitor, history: &[Call], asked: Completed, latency_us: u32) -> Result<(u8, bool), String> {
     let record = *monitor.as_bytes();
-    let command = Command { opcode: asked.opcode, deallocate: asked.deallocate, latency: latency_us };
+    let command = Command { opcode: asked.opcode, deallocate: asked.deallocate, latency_us };
     let number = monitor.reason(command).map_or(0, Reason::number);
     left(&record, monitor)?;
     same("reason", number, reasons::reason(history, asked, latency_us))?;
     let (loaded, stamp_set) = match monitor.clone().completion(command) {
         CompletionAnswer::NotCounted => (false, false),
         CompletionAnswer::Counted { counter, loaded, .. } => {
-            (loaded, monitor.record().active_window.stamps[counter] != UNSET)
+            (loaded, monitor.record().active_window.stamps_ms[counter] != UNSET)
         }
     };
     same("whether its stamp is loaded", loaded, number == 0)?;
@@ -95,7 +95,7 @@ fn answer(monitor: &mut Monitor, call: &Call, lent: &mut [u8]) -> Answer {
     match *call {
         Call::Settings(_) => done(monitor.configure(lent)),
         Call::Completion { command: Completed { opcode, deallocate }, latency_us } => {
-            match monitor.completion(Command { opcode, deallocate, latency: latency_us }) {
+            match monitor.completion(Command { opcode, deallocate, latency_us }) {
                 CompletionAnswer::NotCounted => Answer::NotCounted,
                 CompletionAnswer::Counted { counter, loaded, debug } => Answer::Counted { counter, loaded, debug },
             }
@@ -176,10 +176,10 @@ pub fn fields(record: &Record, history: &[Call], facts: &Facts) -> Result<(), St
     settings(&record.settings, facts)?;
     same("timer", record.timer, facts.timer)?;
     let time = window_time(history, history.len()).map_or(0, |(_, time)| time);
-    same("partial", u64::from(record.partial), time % INCREMENT_MS)?;
+    same("partial_ms", u64::from(record.partial_ms), time % INCREMENT_MS)?;
     same("static_below_a", record.static_below_a, facts.static_below_a)?;
     same("active_below_a", record.active_below_a, facts.active_below_a)?;
-    same("clock and host_set", (record.clock, record.host_set), clock(history))?;
+    same("clock_ms and host_set", (record.clock_ms, record.host_set), clock(history))?;
     window("static window", &record.static_window, &facts.static_window)?;
     window("active window", &record.active_window, &facts.active_window)?;
     debug_log(&record.debug, facts)
@@ -203,7 +203,7 @@ fn window(what: &str, window: &Window, facts: &WindowFacts) -> Result<(), String
     for (n, due) in facts.iter().enumerate() {
         let (stamp, latency, units) =
             due.latest_load.map_or((NO_STAMP, 0, false), |load| (load.stamp, load.measured_latency, load.stamp_unit));
-        let is = (window.counters[n], window.stamps[n], window.latencies[n], window.units[n]);
+        let is = (window.counters[n], window.stamps_ms[n], window.latencies_ms[n], window.stamp_units[n]);
         same(what, is, (due.count, stamp, latency, units))
             .map_err(|difference| format!("counter {n} of the {difference}"))?;
     }
@@ -214,5 +214,5 @@ fn debug_log(debug: &DebugLog, facts: &Facts) -> Result<(), String> {
     let due = facts.debug_log.map_or((NO_STAMP, 0, 0, false), |(counter, event)| {
         (event.stamp, event.measured_latency, 1 << counter, event.stamp_unit)
     });
-    same("debug log", (debug.stamp, debug.latency, debug.source, debug.units), due)
+    same("debug log", (debug.stamp_ms, debug.latency_ms, debug.source, debug.stamp_units), due)
 }

@@ -1,31 +1,31 @@
 //! The latency monitor for Rust: a safe wrapper over the C library.
 //!
 //! ```
-//! use latency_monitor::{offsets, Command, CompletionAnswer, Monitor, PAGE_LENGTH, SETTINGS_LENGTH};
+//! use latency_monitor::{kinds, offsets, opcodes, Command, CompletionAnswer, Monitor, PAGE_LENGTH, SETTINGS_LENGTH};
 //!
 //! let mut settings = [0; SETTINGS_LENGTH];
 //! settings[offsets::TIMER_THRESHOLD] = 2;
 //! settings[offsets::THRESHOLDS..][..4].copy_from_slice(&[0, 1, 3, 9]);
-//! settings[offsets::TRIGGER] = 1; // of counter 0
+//! settings[offsets::TRIGGER] = 1 << kinds::READ; // of the Reads in bucket 0
 //! settings[offsets::ENABLE] = 1;
 //!
 //! let mut monitor = Monitor::new();
 //! monitor.configure(&settings)?;
 //! monitor.elapsed(1_000)?;
-//! let read = Command { opcode: 0x02, deallocate: false, latency: 7_500 };
+//! let read = Command { opcode: opcodes::READ, deallocate: false, latency_us: 7_500 };
 //! let answer = monitor.completion(read);
-//! assert_eq!(answer, CompletionAnswer::Counted { counter: 0, loaded: true, debug: true });
+//! assert_eq!(answer, CompletionAnswer::Counted { counter: kinds::READ, loaded: true, debug: true });
 //!
 //! let mut page = [0; PAGE_LENGTH];
 //! monitor.page(&mut page)?;
 //! assert_eq!(page[44], 1); // Reads in bucket 0
 //!
-//! assert_eq!(monitor.completion(Command { latency: 300, ..read }), CompletionAnswer::NotCounted);
+//! assert_eq!(monitor.completion(Command { latency_us: 300, ..read }), CompletionAnswer::NotCounted);
 //! assert_eq!(monitor.active_below_a().read, 1); // one of two Reads was below threshold A
 //!
-//! let trim = Command { opcode: 0x09, deallocate: true, latency: 7_500 }; // Dataset Management
+//! let trim = Command { opcode: opcodes::DATASET_MANAGEMENT, deallocate: true, latency_us: 7_500 };
 //! let answer = monitor.completion(trim);
-//! assert_eq!(answer, CompletionAnswer::Counted { counter: 2, loaded: true, debug: false });
+//! assert_eq!(answer, CompletionAnswer::Counted { counter: kinds::DEALLOCATE, loaded: true, debug: false });
 //! let without = Command { deallocate: false, ..trim };
 //! assert_eq!(monitor.completion(without), CompletionAnswer::NotCounted);
 //! # Ok::<(), latency_monitor::Refusal>(())
@@ -34,7 +34,9 @@
 #![no_std]
 
 mod answers;
+pub mod kinds;
 pub mod offsets;
+pub mod opcodes;
 mod reading;
 mod restore;
 mod sys;
@@ -44,7 +46,7 @@ use core::mem::MaybeUninit;
 pub use answers::{CompletionAnswer, ElapsedAnswer, Reason, Refusal};
 pub use reading::read_page;
 pub use restore::DamagedRecord;
-pub use sys::{BelowA, Command, DebugLog, LogPage, Reading, Record, Settings, Window, COUNTERS};
+pub use sys::{BelowA, Command, DebugLog, LogPage, Reading, Record, Settings, Window, COUNTERS, KINDS};
 
 /// The length of settings.
 pub const SETTINGS_LENGTH: usize = 4096;
@@ -56,6 +58,10 @@ pub const RECORD_LENGTH: usize = size_of::<Record>();
 pub const READING_LENGTH: usize = size_of::<Reading>();
 /// Changes when the record does; to be kept with a record's bytes.
 pub const RECORD_VERSION: u32 = 2;
+/// The increment of the Active Bucket Timer, five minutes; no call of [`elapsed`](Monitor::elapsed) takes more.
+pub const INCREMENT_MS: u32 = 300_000;
+/// The clock, and a latency stamp that is set, are below it.
+pub const CLOCK_LIMIT_MS: u64 = 1 << 48;
 /// A latency stamp that is not set.
 pub const UNSET: u64 = u64::MAX;
 
@@ -105,16 +111,16 @@ impl Monitor {
         unsafe { sys::latency_monitor_completion(&mut self.0, command) }.into()
     }
 
-    /// Lets time pass, at most 300,000 ms; more is to be split.
-    pub fn elapsed(&mut self, ms: u32) -> Result<ElapsedAnswer, Refusal> {
+    /// Lets time pass, at most [`INCREMENT_MS`]; more is to be split.
+    pub fn elapsed(&mut self, elapsed_ms: u32) -> Result<ElapsedAnswer, Refusal> {
         // SAFETY: the record is borrowed alone.
-        unsafe { sys::latency_monitor_elapsed(&mut self.0, ms) }.try_into()
+        unsafe { sys::latency_monitor_elapsed(&mut self.0, elapsed_ms) }.try_into()
     }
 
-    /// The host sets the clock, in ms, below 2^48.
-    pub fn set_clock(&mut self, ms: u64) -> Result<(), Refusal> {
+    /// The host sets the clock, below [`CLOCK_LIMIT_MS`].
+    pub fn set_clock(&mut self, clock_ms: u64) -> Result<(), Refusal> {
         // SAFETY: the record is borrowed alone.
-        answers::accepted(unsafe { sys::latency_monitor_set_clock(&mut self.0, ms) })
+        answers::accepted(unsafe { sys::latency_monitor_set_clock(&mut self.0, clock_ms) })
     }
 
     /// The drive powered up: the clock is 0, and not the host's, and all else is kept. Never turned away.
@@ -140,7 +146,7 @@ impl Monitor {
     /// completion the record is another.
     ///
     /// ```
-    /// use latency_monitor::{offsets, Command, Monitor, Reason, SETTINGS_LENGTH};
+    /// use latency_monitor::{offsets, opcodes, Command, Monitor, Reason, SETTINGS_LENGTH};
     ///
     /// let mut settings = [0; SETTINGS_LENGTH];
     /// settings[offsets::TIMER_THRESHOLD] = 2;
@@ -151,11 +157,11 @@ impl Monitor {
     ///
     /// let mut monitor = Monitor::new();
     /// monitor.configure(&settings)?;
-    /// let read = Command { opcode: 0x02, deallocate: false, latency: 7_000 };
+    /// let read = Command { opcode: opcodes::READ, deallocate: false, latency_us: 7_000 };
     /// assert_eq!(monitor.reason(read), None);
     /// monitor.completion(read);
     /// assert_eq!(monitor.reason(read), Some(Reason::NotLarger));
-    /// let slower = Command { latency: 8_000, ..read };
+    /// let slower = Command { latency_us: 8_000, ..read };
     /// assert_eq!(monitor.reason(slower), Some(Reason::MinimumWindow));
     /// monitor.elapsed(100)?;
     /// assert_eq!(monitor.reason(slower), None);

@@ -11,7 +11,7 @@ use crate::sys::{self, Reading};
 /// layout; include/latency_monitor.h has the rules. Each page that a monitor writes is accepted.
 ///
 /// ```
-/// use latency_monitor::{offsets, read_page, Command, Monitor, Refusal, PAGE_LENGTH, SETTINGS_LENGTH, UNSET};
+/// use latency_monitor::{offsets, opcodes, read_page, Command, Monitor, Refusal, PAGE_LENGTH, SETTINGS_LENGTH, UNSET};
 ///
 /// let mut settings = [0; SETTINGS_LENGTH];
 /// settings[offsets::TIMER_THRESHOLD] = 2;
@@ -22,14 +22,14 @@ use crate::sys::{self, Reading};
 /// let mut monitor = Monitor::new();
 /// monitor.configure(&settings)?;
 /// monitor.elapsed(1_000)?;
-/// monitor.completion(Command { opcode: 0x01, deallocate: false, latency: 7_500 });
+/// monitor.completion(Command { opcode: opcodes::WRITE, deallocate: false, latency_us: 7_500 });
 /// let mut page = [0; PAGE_LENGTH];
 /// monitor.page(&mut page)?;
 ///
 /// let reading = read_page(&page)?;
 /// let window = &reading.page.active_window;
-/// assert_eq!((window.counters[1], window.stamps[1], window.latencies[1]), (1, 1_000, 7));
-/// assert_eq!((window.counters[0], window.stamps[0]), (0, UNSET));
+/// assert_eq!((window.counters[1], window.stamps_ms[1], window.latencies_ms[1]), (1, 1_000, 7));
+/// assert_eq!((window.counters[0], window.stamps_ms[0]), (0, UNSET));
 /// assert_eq!((reading.debug_held, reading.debug_counter), (true, 1));
 ///
 /// page[1] = 1;

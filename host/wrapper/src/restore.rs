@@ -5,14 +5,10 @@ use core::fmt::{Display, Formatter, Result as Written};
 use core::mem::offset_of;
 
 use crate::sys::{DebugLog, Record, Settings, Window, COUNTERS};
-use crate::{RECORD_LENGTH, UNSET};
+use crate::{CLOCK_LIMIT_MS, INCREMENT_MS, KINDS, RECORD_LENGTH, UNSET};
 
 /// A bit for each counter.
 const ALL_COUNTERS: u16 = (1 << COUNTERS) - 1;
-/// Where the clock stops, in ms.
-const CLOCK_TOP: u64 = (1 << 48) - 1;
-/// The timer's increment, in ms.
-const INCREMENT: u32 = 300_000;
 
 /// The bytes are no record that calls leave.
 #[derive(Clone, Copy, Debug, PartialEq, Eq)]
@@ -42,8 +38,9 @@ pub(crate) fn record(bytes: &[u8; RECORD_LENGTH]) -> Result<Record, DamagedRecor
 
 /// The places of the bools.
 fn flags() -> impl Iterator<Item = usize> {
-    let single = [offset_of!(Record, settings.enabled), offset_of!(Record, host_set), offset_of!(Record, debug.units)];
-    let units = [offset_of!(Record, static_window.units), offset_of!(Record, active_window.units)];
+    let single =
+        [offset_of!(Record, settings.enabled), offset_of!(Record, host_set), offset_of!(Record, debug.stamp_units)];
+    let units = [offset_of!(Record, static_window.stamp_units), offset_of!(Record, active_window.stamp_units)];
     single.into_iter().chain(units.into_iter().flat_map(|first| first..first + COUNTERS))
 }
 
@@ -70,40 +67,40 @@ fn settings(settings: &Settings) -> bool {
 /// While enabled the timer is below its threshold; later settings with enable 0 may bring a smaller one.
 fn times(record: &Record) -> bool {
     let timer_runs = !record.settings.enabled || record.timer < record.settings.timer_threshold;
-    timer_runs && record.partial < INCREMENT && record.clock <= CLOCK_TOP
+    timer_runs && record.partial_ms < INCREMENT_MS && record.clock_ms < CLOCK_LIMIT_MS
 }
 
 fn debug_log(debug: &DebugLog) -> bool {
-    if debug.stamp == UNSET {
-        return (debug.latency, debug.source, debug.units) == (0, 0, false);
+    if debug.stamp_ms == UNSET {
+        return (debug.latency_ms, debug.source, debug.stamp_units) == (0, 0, false);
     }
-    debug.stamp <= CLOCK_TOP && debug.source <= ALL_COUNTERS && debug.source.is_power_of_two()
+    debug.stamp_ms < CLOCK_LIMIT_MS && debug.source <= ALL_COUNTERS && debug.source.is_power_of_two()
 }
 
 /// A counter's first completion loads its stamp, so that both are set or neither.
 fn window(window: &Window) -> bool {
     (0..COUNTERS).all(|n| {
-        if window.stamps[n] == UNSET {
-            (window.counters[n], window.latencies[n], window.units[n]) == (0, 0, false)
+        if window.stamps_ms[n] == UNSET {
+            (window.counters[n], window.latencies_ms[n], window.stamp_units[n]) == (0, 0, false)
         } else {
-            window.stamps[n] <= CLOCK_TOP && window.counters[n] > 0
+            window.stamps_ms[n] < CLOCK_LIMIT_MS && window.counters[n] > 0
         }
     })
 }
 
 /// No load is later than the time in the window.
 fn loads(record: &Record) -> bool {
-    let now = u64::from(record.timer) * u64::from(INCREMENT) + u64::from(record.partial);
-    let latest = |stamp| if stamp == UNSET { 0 } else { now };
-    (0..COUNTERS).all(|n| record.loaded[n] <= latest(record.active_window.stamps[n]))
+    let now_ms = u64::from(record.timer) * u64::from(INCREMENT_MS) + u64::from(record.partial_ms);
+    let latest_ms = |stamp_ms| if stamp_ms == UNSET { 0 } else { now_ms };
+    (0..COUNTERS).all(|n| record.loaded_ms[n] <= latest_ms(record.active_window.stamps_ms[n]))
 }
 
 /// Until settings are accepted no window has time, and nothing is counted or logged.
 fn never_enabled(record: &Record) -> bool {
-    let empty = |window: &Window| window.stamps == [UNSET; COUNTERS];
-    (record.timer, record.partial) == (0, 0)
-        && (record.static_below_a, record.active_below_a) == ([0; 3], [0; 3])
+    let empty = |window: &Window| window.stamps_ms == [UNSET; COUNTERS];
+    (record.timer, record.partial_ms) == (0, 0)
+        && (record.static_below_a, record.active_below_a) == ([0; KINDS], [0; KINDS])
         && empty(&record.static_window)
         && empty(&record.active_window)
-        && record.debug.stamp == UNSET
+        && record.debug.stamp_ms == UNSET
 }

@@ -1,10 +1,13 @@
 //! What include/latency_monitor.h declares.
 //!
-//! The bytes between fields have names here, so that each byte of a record or a reading may be read.
+//! The bytes between fields have names here, so that each byte of a record or a reading may be read. A name that ends
+//! in `_us` or `_ms` has that unit.
 
 use core::mem::{align_of, offset_of, size_of};
 
-/// Counters stand by number, 3 x bucket + kind: the kind is Read (0), Write (1) or Deallocate (2).
+/// What a command does: [`kinds`](crate::kinds) has the numbers.
+pub const KINDS: usize = 3;
+/// Counters stand by number, 3 x bucket + kind: buckets 0 to 3 have thresholds A to D.
 pub const COUNTERS: usize = 12;
 
 /// The settings in force.
@@ -31,11 +34,12 @@ pub struct Settings {
 #[non_exhaustive]
 pub struct Window {
     pub counters: [u32; COUNTERS],
-    pub stamps: [u64; COUNTERS],
-    /// Measured latencies, in ms.
-    pub latencies: [u16; COUNTERS],
-    /// Stamp units: whether the host had set the clock.
-    pub units: [bool; COUNTERS],
+    /// Latency stamps, [`UNSET`](crate::UNSET) where not set.
+    pub stamps_ms: [u64; COUNTERS],
+    /// Measured latencies.
+    pub latencies_ms: [u16; COUNTERS],
+    /// Whether the host had set the clock.
+    pub stamp_units: [bool; COUNTERS],
     padding: [u8; 4],
 }
 
@@ -44,11 +48,11 @@ pub struct Window {
 #[derive(Clone, Copy, Debug)]
 #[non_exhaustive]
 pub struct DebugLog {
-    pub stamp: u64,
-    pub latency: u16,
+    pub stamp_ms: u64,
+    pub latency_ms: u16,
     /// The counter, as one set bit.
     pub source: u16,
-    pub units: bool,
+    pub stamp_units: bool,
     padding: [u8; 3],
 }
 
@@ -63,17 +67,16 @@ pub struct Record {
     /// Whether the host set the clock.
     pub host_set: bool,
     padding: [u8; 1],
-    /// Time since the timer's last increment, in ms.
-    pub partial: u32,
+    /// Time since the timer's last increment.
+    pub partial_ms: u32,
     /// By kind: completions below threshold A in the static window.
-    pub static_below_a: [u32; 3],
+    pub static_below_a: [u32; KINDS],
     /// The same in the active window.
-    pub active_below_a: [u32; 3],
+    pub active_below_a: [u32; KINDS],
     more_padding: [u8; 4],
-    /// In ms.
-    pub clock: u64,
-    /// Time in the active window at the stamp's last load, in ms.
-    pub loaded: [u64; COUNTERS],
+    pub clock_ms: u64,
+    /// Time in the active window at the stamp's last load.
+    pub loaded_ms: [u64; COUNTERS],
     pub debug: DebugLog,
     pub static_window: Window,
     pub active_window: Window,
@@ -101,18 +104,18 @@ pub struct Reading {
     pub page: LogPage,
     /// Whether the page shows a debug log.
     pub debug_held: bool,
-    /// The debug log's counter, 0 if none is held.
+    /// The debug log's counter, 0 to 11; 0 if none is held.
     pub debug_counter: u8,
     padding: [u8; 6],
 }
 
-/// A completed command. Opcode 02h is Read and 01h is Write; 09h (Dataset Management) and 08h (Write Zeroes) are
-/// Deallocate if they have the deallocate attribute or bit, and are not counted without it.
+/// A completed command. Dataset Management and Write Zeroes are Deallocate if they have the deallocate attribute or
+/// bit, and are not counted without it.
 #[repr(C)]
 #[derive(Clone, Copy, Debug)]
 pub struct Command {
-    /// In microseconds.
-    pub latency: u32,
+    pub latency_us: u32,
+    /// One of [`opcodes`](crate::opcodes), or any other.
     pub opcode: u8,
     /// The attribute of Dataset Management or the bit of Write Zeroes; not asked of other commands.
     pub deallocate: bool,
@@ -145,8 +148,8 @@ extern "C" {
     pub fn latency_monitor_new(monitor: *mut Record);
     pub fn latency_monitor_configure(monitor: *mut Record, settings: *const u8, length: usize) -> u8;
     pub fn latency_monitor_completion(monitor: *mut Record, command: Command) -> CompletionAnswer;
-    pub fn latency_monitor_elapsed(monitor: *mut Record, ms: u32) -> ElapsedAnswer;
-    pub fn latency_monitor_set_clock(monitor: *mut Record, ms: u64) -> u8;
+    pub fn latency_monitor_elapsed(monitor: *mut Record, elapsed_ms: u32) -> ElapsedAnswer;
+    pub fn latency_monitor_set_clock(monitor: *mut Record, clock_ms: u64) -> u8;
     pub fn latency_monitor_power_up(monitor: *mut Record) -> u8;
     pub fn latency_monitor_active_below_a(monitor: *const Record) -> BelowA;
     pub fn latency_monitor_static_below_a(monitor: *const Record) -> BelowA;
@@ -178,21 +181,21 @@ layout!(Settings, 12, 2, {
     enabled: 11,
 });
 
-layout!(Window, 184, 8, { counters: 0, stamps: 48, latencies: 144, units: 168, padding: 180 });
+layout!(Window, 184, 8, { counters: 0, stamps_ms: 48, latencies_ms: 144, stamp_units: 168, padding: 180 });
 
-layout!(DebugLog, 16, 8, { stamp: 0, latency: 8, source: 10, units: 12, padding: 13 });
+layout!(DebugLog, 16, 8, { stamp_ms: 0, latency_ms: 8, source: 10, stamp_units: 12, padding: 13 });
 
 layout!(Record, 536, 8, {
     settings: 0,
     timer: 12,
     host_set: 14,
     padding: 15,
-    partial: 16,
+    partial_ms: 16,
     static_below_a: 20,
     active_below_a: 32,
     more_padding: 44,
-    clock: 48,
-    loaded: 56,
+    clock_ms: 48,
+    loaded_ms: 56,
     debug: 152,
     static_window: 168,
     active_window: 352,
@@ -209,7 +212,7 @@ layout!(LogPage, 400, 8, {
 
 layout!(Reading, 408, 8, { page: 0, debug_held: 400, debug_counter: 401, padding: 402 });
 
-layout!(Command, 8, 4, { latency: 0, opcode: 4, deallocate: 5 });
+layout!(Command, 8, 4, { latency_us: 0, opcode: 4, deallocate: 5 });
 
 layout!(CompletionAnswer, 6, 2, { counter: 0, counted: 2, loaded: 3, debug: 4 });
 

@@ -1,18 +1,19 @@
 //! The counts below threshold A.
 
 use latency_monitor::{
-    offsets, BelowA, Command, CompletionAnswer, ElapsedAnswer, Monitor, Refusal, PAGE_LENGTH, SETTINGS_LENGTH,
+    offsets, opcodes, BelowA, Command, CompletionAnswer, ElapsedAnswer, Monitor, Refusal, CLOCK_LIMIT_MS, INCREMENT_MS,
+    KINDS, PAGE_LENGTH, SETTINGS_LENGTH,
 };
 
-/// The first latency that is not below A, in microseconds.
-const A: u32 = 5_000;
+/// The first latency that is not below A.
+const A_US: u32 = 5_000;
 /// Just below A.
-const READ: Command = Command { opcode: 0x02, deallocate: false, latency: A - 1 };
-const WRITE: Command = Command { opcode: 0x01, ..READ };
-const DEALLOCATE: Command = Command { opcode: 0x09, deallocate: true, ..READ };
-const KINDS: [Command; 3] = [READ, WRITE, DEALLOCATE];
-/// A window's length, in ms.
-const WINDOW: u32 = 300_000;
+const READ: Command = Command { opcode: opcodes::READ, deallocate: false, latency_us: A_US - 1 };
+const WRITE: Command = Command { opcode: opcodes::WRITE, ..READ };
+const DEALLOCATE: Command = Command { opcode: opcodes::DATASET_MANAGEMENT, deallocate: true, ..READ };
+const OF_EACH_KIND: [Command; KINDS] = [READ, WRITE, DEALLOCATE];
+/// A window's length.
+const WINDOW_MS: u32 = INCREMENT_MS;
 /// Where a record has the counts of the active window.
 const ACTIVE_BELOW_A: usize = 32;
 
@@ -33,8 +34,8 @@ fn enabled() -> Monitor {
 }
 
 /// So many Reads, Writes and Deallocates just below A.
-fn complete_below_a(monitor: &mut Monitor, counts: [u32; 3]) {
-    for (command, times) in KINDS.into_iter().zip(counts) {
+fn complete_below_a(monitor: &mut Monitor, counts: [u32; KINDS]) {
+    for (command, times) in OF_EACH_KIND.into_iter().zip(counts) {
         for _ in 0..times {
             assert_eq!(monitor.completion(command), CompletionAnswer::NotCounted);
         }
@@ -42,7 +43,7 @@ fn complete_below_a(monitor: &mut Monitor, counts: [u32; 3]) {
 }
 
 fn end_window(monitor: &mut Monitor) {
-    assert_eq!(monitor.elapsed(WINDOW), Ok(ElapsedAnswer::Ended));
+    assert_eq!(monitor.elapsed(WINDOW_MS), Ok(ElapsedAnswer::Ended));
 }
 
 /// 1, 2 and 3 completions below A in the static window, and 6, 5 and 4 in the active one.
@@ -55,7 +56,7 @@ fn in_both_windows() -> Monitor {
 }
 
 /// The counts by both calls, in either order, and in the record, which the calls leave.
-fn assert_counts(monitor: &Monitor, active: [u32; 3], ended: [u32; 3]) {
+fn assert_counts(monitor: &Monitor, active: [u32; KINDS], ended: [u32; KINDS]) {
     let before = *monitor.as_bytes();
     let due = [active, ended].map(|[read, write, deallocate]| BelowA { read, write, deallocate });
     assert_eq!([monitor.active_below_a(), monitor.static_below_a()], due);
@@ -78,12 +79,12 @@ fn by_kind_and_window() {
 
 #[test]
 fn both_sides_of_a() {
-    for (kind, command) in KINDS.into_iter().enumerate() {
+    for (kind, command) in OF_EACH_KIND.into_iter().enumerate() {
         let mut monitor = enabled();
-        assert_eq!(monitor.completion(Command { latency: 0, ..command }), CompletionAnswer::NotCounted);
+        assert_eq!(monitor.completion(Command { latency_us: 0, ..command }), CompletionAnswer::NotCounted);
         assert_eq!(monitor.completion(command), CompletionAnswer::NotCounted);
         let counted = CompletionAnswer::Counted { counter: kind, loaded: true, debug: true };
-        assert_eq!(monitor.completion(Command { latency: A, ..command }), counted);
+        assert_eq!(monitor.completion(Command { latency_us: A_US, ..command }), counted);
         let mut due = [0; 3];
         due[kind] = 2;
         assert_counts(&monitor, due, [0; 3]);
@@ -103,7 +104,7 @@ fn only_while_enabled() {
 #[test]
 fn a_window_takes_its_counts_along() {
     let mut monitor = in_both_windows();
-    monitor.elapsed(WINDOW - 1).unwrap();
+    monitor.elapsed(WINDOW_MS - 1).unwrap();
     assert_counts(&monitor, [6, 5, 4], [1, 2, 3]);
     assert_eq!(monitor.elapsed(1), Ok(ElapsedAnswer::Ended));
     assert_counts(&monitor, [0; 3], [6, 5, 4]);
@@ -116,7 +117,7 @@ fn settings_with_enable_0_keep_them() {
     let mut monitor = in_both_windows();
     monitor.configure(&settings(0)).unwrap();
     complete_below_a(&mut monitor, [1, 1, 1]);
-    assert_eq!(monitor.elapsed(WINDOW), Ok(ElapsedAnswer::Active));
+    assert_eq!(monitor.elapsed(WINDOW_MS), Ok(ElapsedAnswer::Active));
     monitor.configure(&settings(0)).unwrap();
     assert_counts(&monitor, [6, 5, 4], [1, 2, 3]);
 }
@@ -138,10 +139,10 @@ fn other_calls_leave_them() {
     let mut monitor = in_both_windows();
     monitor.set_clock(1 << 40).unwrap();
     monitor.power_up().unwrap();
-    assert_eq!(monitor.set_clock(1 << 48), Err(Refusal::ClockValue));
-    assert_eq!(monitor.elapsed(WINDOW + 1), Err(Refusal::ElapsedTime));
+    assert_eq!(monitor.set_clock(CLOCK_LIMIT_MS), Err(Refusal::ClockValue));
+    assert_eq!(monitor.elapsed(WINDOW_MS + 1), Err(Refusal::ElapsedTime));
     assert_eq!(monitor.configure(&settings(2)), Err(Refusal::FlagAboveOne));
-    monitor.completion(Command { latency: A, ..WRITE });
+    monitor.completion(Command { latency_us: A_US, ..WRITE });
     monitor.settings_back(&mut [0; SETTINGS_LENGTH]).unwrap();
     page(&monitor);
     assert_counts(&monitor, [6, 5, 4], [1, 2, 3]);
@@ -158,7 +159,7 @@ fn no_page_shows_them() {
 
 #[test]
 fn held_at_their_top() {
-    for kind in 0..3 {
+    for kind in 0..KINDS {
         let mut bytes = *in_both_windows().as_bytes();
         bytes[ACTIVE_BELOW_A + 4 * kind..][..4].copy_from_slice(&(u32::MAX - 1).to_ne_bytes());
         let mut monitor = Monitor::restore(&bytes).unwrap();

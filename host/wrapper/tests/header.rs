@@ -1,73 +1,103 @@
-//! The wrapper's constants, refusals, reasons and layouts are the header's.
+//! The wrapper's constants, kinds, opcodes, refusals, reasons and layouts are the header's.
 
 use std::mem::offset_of;
 
 use latency_monitor::{
-    offsets, BelowA, Command, Reason, Record, Refusal, COUNTERS, PAGE_LENGTH, READING_LENGTH, RECORD_LENGTH,
-    RECORD_VERSION, SETTINGS_LENGTH,
+    kinds, offsets, opcodes, BelowA, Command, DebugLog, LogPage, Reading, Reason, Record, Refusal, Settings, Window,
+    CLOCK_LIMIT_MS, COUNTERS, INCREMENT_MS, KINDS, PAGE_LENGTH, READING_LENGTH, RECORD_LENGTH, RECORD_VERSION,
+    SETTINGS_LENGTH, UNSET,
 };
 
 const HEADER: &str = include_str!("../../../include/latency_monitor.h");
 
-/// What the header defines a name as.
-fn defined(name: &str) -> Option<usize> {
-    let mut words = HEADER.lines().map(str::split_whitespace);
-    words.find_map(|mut words| match (words.next()?, words.next()?, words.next()?) {
-        ("#define", found, value) if found == name => value.parse().ok(),
-        _ => None,
-    })
+/// A number as the header writes it.
+fn number(text: &str) -> Option<u64> {
+    let inner = text.strip_prefix("UINT32_C(").or(text.strip_prefix("UINT64_C("));
+    let text = inner.and_then(|text| text.strip_suffix(')')).unwrap_or(text);
+    match text.strip_prefix("0x") {
+        Some(digits) => u64::from_str_radix(digits, 16).ok(),
+        None => text.parse().ok(),
+    }
+}
+
+/// The numbers that the header defines, with their names.
+fn defined() -> Vec<(&'static str, u64)> {
+    let named = |line: &'static str| -> Option<(&'static str, u64)> {
+        let (name, rest) = line.strip_prefix("#define LATENCY_MONITOR_")?.split_once(' ')?;
+        Some((name, number(rest.split(' ').next()?)?))
+    };
+    HEADER.lines().filter_map(named).collect()
 }
 
 #[test]
 fn constants() {
-    let constants = [
-        ("COUNTERS", COUNTERS),
-        ("SETTINGS_LENGTH", SETTINGS_LENGTH),
-        ("PAGE_LENGTH", PAGE_LENGTH),
-        ("RECORD_VERSION", RECORD_VERSION as usize),
-        ("SETTINGS_TIMER_THRESHOLD", offsets::TIMER_THRESHOLD),
-        ("SETTINGS_THRESHOLDS", offsets::THRESHOLDS),
-        ("SETTINGS_MODE", offsets::MODE),
-        ("SETTINGS_MINIMUM_WINDOW", offsets::MINIMUM_WINDOW),
-        ("SETTINGS_TRIGGER", offsets::TRIGGER),
-        ("SETTINGS_DISCARD", offsets::DISCARD),
-        ("SETTINGS_ENABLE", offsets::ENABLE),
+    let due = [
+        ("KINDS", KINDS as u64),
+        ("COUNTERS", COUNTERS as u64),
+        ("INCREMENT_MS", INCREMENT_MS.into()),
+        ("CLOCK_LIMIT_MS", CLOCK_LIMIT_MS),
+        ("UNSET", UNSET),
+        ("SETTINGS_LENGTH", SETTINGS_LENGTH as u64),
+        ("PAGE_LENGTH", PAGE_LENGTH as u64),
+        ("SETTINGS_TIMER_THRESHOLD", offsets::TIMER_THRESHOLD as u64),
+        ("SETTINGS_THRESHOLDS", offsets::THRESHOLDS as u64),
+        ("SETTINGS_MODE", offsets::MODE as u64),
+        ("SETTINGS_MINIMUM_WINDOW", offsets::MINIMUM_WINDOW as u64),
+        ("SETTINGS_TRIGGER", offsets::TRIGGER as u64),
+        ("SETTINGS_DISCARD", offsets::DISCARD as u64),
+        ("SETTINGS_ENABLE", offsets::ENABLE as u64),
+        ("RECORD_VERSION", RECORD_VERSION.into()),
     ];
-    for (name, value) in constants {
-        assert_eq!(defined(&format!("LATENCY_MONITOR_{name}")), Some(value), "{name}");
-    }
+    assert_eq!(defined(), due);
 }
 
 /// The names and numbers of an enum of the header.
-fn listed(name: &str) -> Vec<(&'static str, u8)> {
+fn listed(name: &str) -> Vec<(&'static str, u64)> {
     let (_, list) = HEADER.split_once(&format!("enum latency_monitor_{name} {{\n")).expect("the list");
     let (list, _) = list.split_once("};").expect("its end");
-    let named = |line: &'static str| -> Option<(&'static str, u8)> {
+    let named = |line: &'static str| -> Option<(&'static str, u64)> {
         let (name, rest) = line.trim().strip_prefix("LATENCY_MONITOR_")?.split_once(" = ")?;
-        Some((name, rest.split([',', ' ']).next()?.parse().ok()?))
+        Some((name, number(rest.split([',', ' ']).next()?)?))
     };
     list.lines().map(|line| named(line).expect(line)).collect()
 }
 
 #[test]
+fn kinds_by_number() {
+    let due = [("KIND_READ", kinds::READ), ("KIND_WRITE", kinds::WRITE), ("KIND_DEALLOCATE", kinds::DEALLOCATE)];
+    assert_eq!(listed("kind"), due.map(|(name, kind)| (name, kind as u64)));
+}
+
+#[test]
+fn opcodes_by_name() {
+    let due = [
+        ("OPCODE_READ", opcodes::READ),
+        ("OPCODE_WRITE", opcodes::WRITE),
+        ("OPCODE_DATASET_MANAGEMENT", opcodes::DATASET_MANAGEMENT),
+        ("OPCODE_WRITE_ZEROES", opcodes::WRITE_ZEROES),
+    ];
+    assert_eq!(listed("opcode"), due.map(|(name, opcode)| (name, u64::from(opcode))));
+}
+
+#[test]
 fn refusals() {
     let refusals = [
-        ("SETTINGS_LENGTH_WRONG", Refusal::SettingsLength),
-        ("RESERVED_BYTE", Refusal::ReservedByte),
-        ("FLAG_ABOVE_ONE", Refusal::FlagAboveOne),
-        ("NO_TIMER_THRESHOLD", Refusal::NoTimerThreshold),
-        ("THRESHOLD_ORDER", Refusal::ThresholdOrder),
-        ("RESERVED_BIT", Refusal::ReservedBit),
-        ("ELAPSED_TIME", Refusal::ElapsedTime),
-        ("CLOCK_VALUE", Refusal::ClockValue),
-        ("PAGE_LENGTH_WRONG", Refusal::PageLength),
-        ("SETTINGS_BACK_LENGTH", Refusal::SettingsBackLength),
-        ("READ_LENGTH_WRONG", Refusal::ReadLength),
-        ("READ_IDENTITY", Refusal::ReadIdentity),
-        ("READ_LAYOUT", Refusal::ReadLayout),
+        ("REFUSED_SETTINGS_LENGTH", Refusal::SettingsLength),
+        ("REFUSED_RESERVED_BYTE", Refusal::ReservedByte),
+        ("REFUSED_FLAG_ABOVE_ONE", Refusal::FlagAboveOne),
+        ("REFUSED_NO_TIMER_THRESHOLD", Refusal::NoTimerThreshold),
+        ("REFUSED_THRESHOLD_ORDER", Refusal::ThresholdOrder),
+        ("REFUSED_RESERVED_BIT", Refusal::ReservedBit),
+        ("REFUSED_ELAPSED_TIME", Refusal::ElapsedTime),
+        ("REFUSED_CLOCK_VALUE", Refusal::ClockValue),
+        ("REFUSED_PAGE_LENGTH", Refusal::PageLength),
+        ("REFUSED_SETTINGS_BACK_LENGTH", Refusal::SettingsBackLength),
+        ("REFUSED_READ_LENGTH", Refusal::ReadLength),
+        ("REFUSED_READ_IDENTITY", Refusal::ReadIdentity),
+        ("REFUSED_READ_LAYOUT", Refusal::ReadLayout),
     ];
     let mut due = vec![("ACCEPTED", 0)];
-    due.extend(refusals.map(|(name, refusal)| (name, refusal.number())));
+    due.extend(refusals.map(|(name, refusal)| (name, u64::from(refusal.number()))));
     assert_eq!(listed("refusal"), due);
 }
 
@@ -82,7 +112,7 @@ fn reasons() {
         ("REASON_MINIMUM_WINDOW", Reason::MinimumWindow),
     ];
     let mut due = vec![("REASON_NONE", 0)];
-    due.extend(reasons.map(|(name, reason)| (name, reason.number())));
+    due.extend(reasons.map(|(name, reason)| (name, u64::from(reason.number()))));
     assert_eq!(listed("reason_number"), due);
 }
 
@@ -112,8 +142,14 @@ fn places() {
             ));)*
         };
     }
-    places!(Record, "latency_monitor", [settings, timer, host_set, partial, static_below_a, active_below_a]);
-    places!(Record, "latency_monitor", [clock, loaded, debug, static_window, active_window]);
-    places!(Command, "latency_monitor_command", [latency, opcode, deallocate]);
+    places!(Settings, "latency_monitor_settings", [timer_threshold, mode, trigger, thresholds, minimum_window]);
+    places!(Settings, "latency_monitor_settings", [enabled]);
+    places!(Window, "latency_monitor_window", [counters, stamps_ms, latencies_ms, stamp_units]);
+    places!(DebugLog, "latency_monitor_debug_log", [stamp_ms, latency_ms, source, stamp_units]);
+    places!(Record, "latency_monitor", [settings, timer, host_set, partial_ms, static_below_a, active_below_a]);
+    places!(Record, "latency_monitor", [clock_ms, loaded_ms, debug, static_window, active_window]);
+    places!(LogPage, "latency_monitor_log_page", [settings, timer, active_window, static_window, debug]);
+    places!(Reading, "latency_monitor_reading", [page, debug_held, debug_counter]);
+    places!(Command, "latency_monitor_command", [latency_us, opcode, deallocate]);
     places!(BelowA, "latency_monitor_below_a", [read, write, deallocate]);
 }

@@ -1,23 +1,23 @@
 //! Which commands are Reads, Writes and Deallocates, in the counters and in the counts below threshold A.
 
-use latency_monitor::{offsets, Command, CompletionAnswer, Monitor, COUNTERS, SETTINGS_LENGTH};
+use latency_monitor::{kinds, offsets, opcodes, Command, CompletionAnswer, Monitor, COUNTERS, KINDS, SETTINGS_LENGTH};
 
-/// The first latency that is not below A, in microseconds.
-const A: u32 = 5_000;
+/// The first latency that is not below A.
+const A_US: u32 = 5_000;
 
 /// The kind's number, by document 02, Ticket 4.
 fn kind(command: Command) -> Option<usize> {
     match (command.opcode, command.deallocate) {
-        (0x02, _) => Some(0),
-        (0x01, _) => Some(1),
-        (0x09 | 0x08, true) => Some(2),
+        (opcodes::READ, _) => Some(kinds::READ),
+        (opcodes::WRITE, _) => Some(kinds::WRITE),
+        (opcodes::DATASET_MANAGEMENT | opcodes::WRITE_ZEROES, true) => Some(kinds::DEALLOCATE),
         _ => None,
     }
 }
 
 /// Every opcode, without the deallocate attribute or bit and with it.
-fn commands(latency: u32) -> impl Iterator<Item = Command> {
-    (0..=0xFF).flat_map(move |opcode| [false, true].map(|deallocate| Command { opcode, deallocate, latency }))
+fn commands(latency_us: u32) -> impl Iterator<Item = Command> {
+    (0..=0xFF).flat_map(move |opcode| [false, true].map(|deallocate| Command { opcode, deallocate, latency_us }))
 }
 
 fn enabled() -> Monitor {
@@ -32,7 +32,7 @@ fn enabled() -> Monitor {
 }
 
 /// The counter that an enabled monitor answers, and its counters and counts below A after the command.
-fn counted(command: Command) -> (Option<usize>, [u32; COUNTERS], [u32; 3]) {
+fn counted(command: Command) -> (Option<usize>, [u32; COUNTERS], [u32; KINDS]) {
     let mut monitor = enabled();
     let counter = match monitor.completion(command) {
         CompletionAnswer::NotCounted => None,
@@ -49,15 +49,15 @@ fn one<const N: usize>(place: Option<usize>) -> [u32; N] {
 
 #[test]
 fn slow() {
-    for command in commands(A) {
+    for command in commands(A_US) {
         let kind = kind(command);
-        assert_eq!(counted(command), (kind, one(kind), [0; 3]), "{command:?}");
+        assert_eq!(counted(command), (kind, one(kind), [0; KINDS]), "{command:?}");
     }
 }
 
 #[test]
 fn below_a() {
-    for command in commands(A - 1) {
+    for command in commands(A_US - 1) {
         assert_eq!(counted(command), (None, [0; COUNTERS], one(kind(command))), "{command:?}");
     }
 }
@@ -66,7 +66,8 @@ fn below_a() {
 fn what_is_of_no_kind_leaves_the_record() {
     let mut monitor = enabled();
     let before = *monitor.as_bytes();
-    for command in [0, A - 1, A, u32::MAX].into_iter().flat_map(commands).filter(|&command| kind(command).is_none()) {
+    let all = [0, A_US - 1, A_US, u32::MAX].into_iter().flat_map(commands);
+    for command in all.filter(|&command| kind(command).is_none()) {
         assert_eq!(monitor.completion(command), CompletionAnswer::NotCounted, "{command:?}");
         assert_eq!(*monitor.as_bytes(), before, "{command:?}");
     }

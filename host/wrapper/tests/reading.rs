@@ -1,12 +1,13 @@
 //! Pages that are read.
 
 use latency_monitor::{
-    offsets, read_page, Command, Monitor, Reading, Refusal, Settings, Window, COUNTERS, PAGE_LENGTH, SETTINGS_LENGTH,
-    UNSET,
+    offsets, opcodes, read_page, Command, Monitor, Reading, Refusal, Settings, Window, CLOCK_LIMIT_MS, COUNTERS,
+    INCREMENT_MS, KINDS, PAGE_LENGTH, SETTINGS_LENGTH, UNSET,
 };
 
 /// An opcode of each kind, and its deallocate attribute.
-const KINDS: [(u8, bool); 3] = [(0x02, false), (0x01, false), (0x09, true)];
+const OF_EACH_KIND: [(u8, bool); KINDS] =
+    [(opcodes::READ, false), (opcodes::WRITE, false), (opcodes::DATASET_MANAGEMENT, true)];
 const THRESHOLDS: [u8; 4] = [0, 1, 3, 9];
 
 /// Where a page has its fields.
@@ -37,16 +38,16 @@ fn monitor() -> Monitor {
     monitor.configure(&settings).unwrap();
     monitor.set_clock(1 << 40).unwrap();
     (0..COUNTERS).for_each(|n| complete(&mut monitor, n));
-    monitor.elapsed(300_000).unwrap();
+    monitor.elapsed(INCREMENT_MS).unwrap();
     (0..6).for_each(|n| complete(&mut monitor, n));
     monitor
 }
 
 /// A command that counter n counts.
 fn complete(monitor: &mut Monitor, n: usize) {
-    let latency = 5_000 * (u32::from(THRESHOLDS[n / 3]) + 1) + 1_000 * n as u32;
-    let (opcode, deallocate) = KINDS[n % 3];
-    monitor.completion(Command { opcode, deallocate, latency });
+    let latency_us = 5_000 * (u32::from(THRESHOLDS[n / KINDS]) + 1) + 1_000 * n as u32;
+    let (opcode, deallocate) = OF_EACH_KIND[n % KINDS];
+    monitor.completion(Command { opcode, deallocate, latency_us });
 }
 
 fn page(monitor: &Monitor) -> [u8; PAGE_LENGTH] {
@@ -61,7 +62,7 @@ fn settings(settings: &Settings) -> (u16, u16, u16, [u8; 4], u8, bool) {
 }
 
 fn window(window: &Window) -> ([u32; COUNTERS], [u64; COUNTERS], [u16; COUNTERS], [bool; COUNTERS]) {
-    (window.counters, window.stamps, window.latencies, window.units)
+    (window.counters, window.stamps_ms, window.latencies_ms, window.stamp_units)
 }
 
 /// The reading shows what the monitor's record does.
@@ -73,8 +74,8 @@ fn assert_shows(reading: &Reading, monitor: &Monitor) {
     assert_eq!(window(&page.static_window), window(&record.static_window));
     let (debug, due) = (&page.debug, &record.debug);
     assert_eq!(
-        (debug.stamp, debug.latency, debug.source, debug.units),
-        (due.stamp, due.latency, due.source, due.units)
+        (debug.stamp_ms, debug.latency_ms, debug.source, debug.stamp_units),
+        (due.stamp_ms, due.latency_ms, due.source, due.stamp_units)
     );
 }
 
@@ -90,7 +91,7 @@ fn a_new_monitors_page_has_no_debug_log() {
     let reading = read_page(&page(&Monitor::new())).unwrap();
     assert_shows(&reading, &Monitor::new());
     assert_eq!((reading.debug_held, reading.debug_counter), (false, 0));
-    assert_eq!(reading.page.debug.stamp, UNSET);
+    assert_eq!(reading.page.debug.stamp_ms, UNSET);
 }
 
 #[test]
@@ -137,7 +138,7 @@ fn other_versions_and_guids_are_turned_away() {
 #[test]
 fn other_layouts_are_turned_away() {
     let (new, full) = (page(&Monitor::new()), page(&monitor()));
-    let clock_above = (1u64 << 48).to_le_bytes();
+    let clock_above = CLOCK_LIMIT_MS.to_le_bytes();
     let cases = [
         ("bit 1 of byte 0", with(full, ENABLED, &[3])),
         ("byte 1", with(full, 1, &[1])),

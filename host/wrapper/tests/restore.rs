@@ -1,7 +1,8 @@
 //! Records that were kept as bytes.
 
 use latency_monitor::{
-    offsets, Command, DamagedRecord, ElapsedAnswer, Monitor, PAGE_LENGTH, RECORD_LENGTH, SETTINGS_LENGTH,
+    offsets, opcodes, Command, DamagedRecord, ElapsedAnswer, Monitor, CLOCK_LIMIT_MS, INCREMENT_MS, PAGE_LENGTH,
+    RECORD_LENGTH, SETTINGS_LENGTH,
 };
 
 /// The bytes of a record, as include/latency_monitor.h lays it out.
@@ -31,9 +32,9 @@ const DEBUG_LATENCY: usize = 8;
 const DEBUG_SOURCE: usize = 10;
 const DEBUG_UNITS: usize = 12;
 
-const READ: Command = Command { opcode: 0x02, deallocate: false, latency: 7_500 };
+const READ: Command = Command { opcode: opcodes::READ, deallocate: false, latency_us: 7_500 };
 /// Below threshold A.
-const WRITE: Command = Command { opcode: 0x01, deallocate: false, latency: 300 };
+const WRITE: Command = Command { opcode: opcodes::WRITE, deallocate: false, latency_us: 300 };
 
 fn settings() -> [u8; SETTINGS_LENGTH] {
     let mut settings = [0; SETTINGS_LENGTH];
@@ -49,11 +50,11 @@ fn settings() -> [u8; SETTINGS_LENGTH] {
 fn monitor() -> Monitor {
     let mut monitor = Monitor::new();
     monitor.configure(&settings()).unwrap();
-    monitor.elapsed(300_000).unwrap();
+    monitor.elapsed(INCREMENT_MS).unwrap();
     monitor.completion(READ);
     monitor.completion(WRITE);
-    assert_eq!(monitor.elapsed(300_000), Ok(ElapsedAnswer::Ended));
-    monitor.elapsed(300_000).unwrap();
+    assert_eq!(monitor.elapsed(INCREMENT_MS), Ok(ElapsedAnswer::Ended));
+    monitor.elapsed(INCREMENT_MS).unwrap();
     monitor.completion(READ);
     monitor.completion(WRITE);
     monitor.elapsed(250_000).unwrap();
@@ -98,7 +99,7 @@ fn power_up_keeps_all_but_the_clock() {
     monitor.set_clock(1_000_000).unwrap();
     let mut restored = Monitor::restore(monitor.as_bytes()).unwrap();
     restored.power_up().unwrap();
-    assert_eq!((restored.record().clock, restored.record().host_set), (0, false));
+    assert_eq!((restored.record().clock_ms, restored.record().host_set), (0, false));
     assert_eq!(page(&restored), page(&monitor));
     assert_eq!(restored.active_below_a(), monitor.active_below_a());
     assert_eq!(restored.static_below_a(), monitor.static_below_a());
@@ -117,7 +118,7 @@ fn a_bool_is_0_or_1() {
 
 #[test]
 fn no_call_leaves_these() {
-    let clock_above = (1u64 << 48).to_le_bytes();
+    let clock_above = CLOCK_LIMIT_MS.to_le_bytes();
     let cases: [(&str, usize, &[u8]); 20] = [
         ("a timer threshold of 0", TIMER_THRESHOLD, &[0, 0]),
         ("bit 12 of the mode", MODE, &[0, 0x10]),
@@ -125,7 +126,7 @@ fn no_call_leaves_these() {
         ("A above B", THRESHOLDS, &[2, 1, 3, 9]),
         ("C above D", THRESHOLDS, &[0, 1, 3, 2]),
         ("the timer at its threshold", TIMER, &[2, 0]),
-        ("a partial of 300,000", PARTIAL, &300_000u32.to_le_bytes()),
+        ("a partial of 300,000", PARTIAL, &INCREMENT_MS.to_le_bytes()),
         ("a clock of 2^48", CLOCK, &clock_above),
         ("a load after now", LOADED, &550_001u64.to_le_bytes()),
         ("a load without a stamp", LOADED + 8, &[1]),
@@ -177,9 +178,9 @@ fn the_last_that_calls_leave() {
         ("mode largest for all", MODE, &[0xFF, 0x0F]),
         ("every trigger", TRIGGER, &[0xFF, 0x0F]),
         ("equal thresholds", THRESHOLDS, &[9; 4]),
-        ("a partial of 299,999", PARTIAL, &299_999u32.to_le_bytes()),
+        ("a partial of 299,999", PARTIAL, &(INCREMENT_MS - 1).to_le_bytes()),
         ("every count below A at its top", STATIC_BELOW_A, &[0xFF; 24]),
-        ("a clock of 2^48 - 1", CLOCK, &((1u64 << 48) - 1).to_le_bytes()),
+        ("a clock of 2^48 - 1", CLOCK, &(CLOCK_LIMIT_MS - 1).to_le_bytes()),
         ("a load just now", LOADED, &550_000u64.to_le_bytes()),
         ("a debug log of counter 11", DEBUG + DEBUG_SOURCE, &[0, 0x08]),
     ];
