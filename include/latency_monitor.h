@@ -2,13 +2,20 @@
  * The latency monitor: a drive's slow commands in latency buckets, and log page C3h of the OCP Datacenter NVMe SSD
  * Specification 2.5. For C99 and C++11.
  *
- * Firmware keeps one record for each drive and lends it for each call. There is no allocation and no state but the
- * record, so calls on distinct records may run at the same time. Calls on one record must not, those of interrupt
- * handlers included, unless both take it as const. No two pointers of a call may overlap. Tools that open the pages of
- * drives need no record: they lend a reading, for which the same holds.
+ * Firmware keeps one record for each drive and lends it for each call. Tools that open the pages of drives need no
+ * record: they lend a reading. There is no allocation and no state but what is lent.
+ *
+ * Calls on different records may run at the same time. So may calls on one record that take it as const, each with a
+ * buffer of its own. While a call that changes a record runs, no other call on that record may run, not even in an
+ * interrupt handler. A reading is lent to one call at a time.
+ *
+ * In storage that is lent as a record or a reading each bool is 0 or 1, also before latency_monitor_new and
+ * latency_monitor_read_page fill it; every other byte may then hold anything. So zeroed storage will do, as static
+ * storage is, and so will an old record or reading; other storage is zeroed first.
  *
  * A call that is turned away answers with its refusal number and leaves record and buffer as they were. Any number may
- * be passed, and a buffer of any length, with its own length beside it. No pointer may be null.
+ * be passed, and a buffer of any length, with its own length beside it. No pointer may be null, and no two of a call may
+ * overlap.
  *
  * A name that ends in _us or _ms has that unit. The timer, its threshold, thresholds A to D and the minimum window are
  * in the specification's own units, which stand beside them.
@@ -17,8 +24,9 @@
  *
  *     cc -std=c99 -I include firmware.c liblatency_monitor.a
  *
- * It asks the firmware for memcpy and memset, and a call takes at most 1,264 bytes of stack beside what those take. It
- * uses SSE2 registers and the red zone (128 bytes below the stack pointer), so it is not for code that must do without.
+ * It asks the firmware for memcpy and memset. The most stack that a call took when measured is 1,264 bytes; no bound on
+ * it is proved. It uses SSE2 registers and the red zone (128 bytes below the stack pointer), so it is not for code that
+ * must do without.
  *
  * Nothing in this header is of x86-64: it compiles where a bool is one byte and a uint64_t is aligned to eight, as on
  * 64-bit and 32-bit Arm and RISC-V, and the record is then laid out alike. The archive for another processor is the
@@ -212,8 +220,8 @@ struct latency_monitor_below_a {
 };
 
 /*
- * Makes a record a new monitor's: disabled, settings zero, clock 0, both windows empty. The storage may be zeroed, as
- * static storage is, or hold a record. Zeroed storage is no new monitor itself: its stamps are set, at 0.
+ * Makes a record a new monitor's: disabled, settings zero, clock 0, both windows empty. Zeroed storage may be lent, but
+ * is no new monitor itself: its stamps are set, at 0.
  */
 void latency_monitor_new(struct latency_monitor *monitor);
 
@@ -253,9 +261,9 @@ uint8_t latency_monitor_page(const struct latency_monitor *monitor, uint8_t *pag
 uint8_t latency_monitor_settings_back(const struct latency_monitor *monitor, uint8_t *settings, size_t length);
 
 /*
- * Reads log page C3h of any drive. The reading's storage may be zeroed, as static storage is, or hold a reading. A page
- * is turned away by 13 if it is not 512 bytes, by 14 if its version or GUID is not the one that latency_monitor_page
- * writes, and by 15 if it breaks a rule of the layout; the reading is then that of a new monitor's page. The rules:
+ * Reads log page C3h of any drive. A page is turned away by 13 if it is not 512 bytes, by 14 if its version or GUID is
+ * not the one that latency_monitor_page writes, and by 15 if it breaks a rule of the layout; the reading is then that
+ * of a new monitor's page. The rules:
  *
  *   - Bytes 2 to 9 (timer, timer threshold, thresholds) and 12 (minimum window) may hold anything.
  *   - Byte 0 (enabled) and the stamp units of the debug log are 0 or 1. Bits 12 to 15 of mode, trigger and the windows'

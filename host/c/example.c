@@ -135,6 +135,7 @@ int main(void)
     static uint8_t page[LATENCY_MONITOR_PAGE_LENGTH];
     struct latency_monitor_elapsed_answer elapsed;
 
+    memset(&monitor, 1, sizeof monitor); /* each bool is true, and every other byte may hold anything */
     latency_monitor_new(&monitor);
     configure();
     elapsed = latency_monitor_elapsed(&monitor, 1000);

@@ -74,7 +74,7 @@ impl Monitor {
     /// A new monitor: disabled, settings zero, clock 0, both windows empty.
     pub fn new() -> Monitor {
         let mut record = MaybeUninit::zeroed();
-        // SAFETY: the storage is a record's and zeroed, and the call makes it a new monitor's.
+        // SAFETY: the storage is a record's and zeroed, so each bool is 0, and the call makes it a new monitor's.
         Monitor(unsafe {
             sys::latency_monitor_new(record.as_mut_ptr());
             record.assume_init()
@@ -84,11 +84,11 @@ impl Monitor {
     /// The monitor whose [bytes](Monitor::as_bytes) were kept; after a power cycle, [`power_up`](Monitor::power_up) is
     /// the next call.
     ///
-    /// Bytes that no history of calls leaves are refused: a bool that is neither 0 nor 1; settings that are neither
-    /// zero nor accepted; a timer, partial increment or clock beyond its end; a debug log or a counter whose parts
-    /// disagree; a load later than the time in the window; with settings that are zero, a timer, count, stamp or debug
-    /// log that a new monitor has not. Other damage is not seen, and a checksum is for the keeper to add. Bytes of
-    /// another [`RECORD_VERSION`] are not to be restored.
+    /// Turned away are bytes with one of these, which no history of calls leaves: a bool that is neither 0 nor 1;
+    /// settings that are neither zero nor accepted; a timer, partial increment, clock or stamp beyond its end; a debug
+    /// log or a counter whose parts disagree; a load later than the time in the window; with settings that are zero, a
+    /// timer, partial increment, count, stamp or debug log that a new monitor has not. Other damage is not seen, so
+    /// keep a checksum with the bytes. Bytes of another [`RECORD_VERSION`] are not to be restored.
     pub fn restore(bytes: &[u8; RECORD_LENGTH]) -> Result<Monitor, DamagedRecord> {
         restore::record(bytes).map(Monitor)
     }

@@ -38,7 +38,7 @@ use crate::sys::{self, Reading};
 /// ```
 pub fn read_page(page: &[u8]) -> Result<Reading, Refusal> {
     let mut reading = MaybeUninit::zeroed();
-    // SAFETY: the storage is a reading's and zeroed, which is a reading too, and the length is the slice's.
+    // SAFETY: the storage is a reading's and zeroed, so each bool is 0, and the length is the slice's.
     let (answer, reading) = unsafe {
         let answer = sys::latency_monitor_read_page(reading.as_mut_ptr(), page.as_ptr(), page.len());
         (answer, reading.assume_init())
