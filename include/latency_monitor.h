@@ -13,9 +13,9 @@
  * latency_monitor_read_page fill it; every other byte may then hold anything. So zeroed storage will do, as static
  * storage is, and so will an old record or reading; other storage is zeroed first.
  *
- * A call that is turned away answers with its refusal number and leaves record and buffer as they were. Any number may
- * be passed, and a buffer of any length, with its own length beside it. No pointer may be null, and no two of a call may
- * overlap.
+ * A call that is turned away answers with its refusal number and leaves all that it was lent as it was: record, buffer
+ * and reading. Any number may be passed, and a buffer of any length, with its own length beside it. No pointer may be
+ * null, and no two of a call may overlap.
  *
  * A name that ends in _us or _ms has that unit. The timer, its threshold, thresholds A to D and the minimum window are
  * in the specification's own units, which stand beside them.
@@ -262,8 +262,8 @@ uint8_t latency_monitor_settings_back(const struct latency_monitor *monitor, uin
 
 /*
  * Reads log page C3h of any drive. A page is turned away by 13 if it is not 512 bytes, by 14 if its version or GUID is
- * not the one that latency_monitor_page writes, and by 15 if it breaks a rule of the layout; the reading is then that
- * of a new monitor's page. The rules:
+ * not the one that latency_monitor_page writes, and by 15 if it breaks a rule of the layout; the reading then stays as
+ * it was. The rules:
  *
  *   - Bytes 2 to 9 (timer, timer threshold, thresholds) and 12 (minimum window) may hold anything.
  *   - Byte 0 (enabled) and the stamp units of the debug log are 0 or 1. Bits 12 to 15 of mode, trigger and the windows'

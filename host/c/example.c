@@ -1,5 +1,5 @@
 /* Document 01's example as firmware would play it, with what no page shows and a power cycle: prints the page as the
- * page program does, and reads it as a lab tool would. */
+ * page program does, and reads it as a lab tool would, with others that are turned away. */
 
 #include <stdio.h>
 #include <stdlib.h>
@@ -98,6 +98,29 @@ static void power_cycle(void)
     expect(monitor.clock_ms == 0, "the clock starts anew");
 }
 
+/* A page that is turned away leaves each byte of the reading, here all 1 and so each bool true. */
+static void turn_away(const uint8_t *page, size_t length, uint8_t refusal)
+{
+    static struct latency_monitor_reading reading;
+    static uint8_t before[sizeof reading];
+
+    memset(before, 1, sizeof before);
+    memcpy(&reading, before, sizeof reading);
+    expect(latency_monitor_read_page(&reading, page, length) == refusal, "the page is turned away");
+    expect(memcmp(&reading, before, sizeof reading) == 0, "and the reading is left");
+}
+
+static void turn_pages_away(const uint8_t *page)
+{
+    static uint8_t other[LATENCY_MONITOR_PAGE_LENGTH], broken[LATENCY_MONITOR_PAGE_LENGTH];
+
+    turn_away(page, LATENCY_MONITOR_PAGE_LENGTH - 1, LATENCY_MONITOR_REFUSED_READ_LENGTH);
+    turn_away(other, sizeof other, LATENCY_MONITOR_REFUSED_READ_IDENTITY);
+    memcpy(broken, page, sizeof broken);
+    broken[1] = 1;
+    turn_away(broken, sizeof broken, LATENCY_MONITOR_REFUSED_READ_LAYOUT);
+}
+
 static void read_back(const uint8_t *page)
 {
     static struct latency_monitor_reading reading;
@@ -110,9 +133,6 @@ static void read_back(const uint8_t *page)
         "the page shows the Read");
     expect(shown->static_window.stamps_ms[0] == LATENCY_MONITOR_UNSET, "the static window is empty");
     expect(reading.debug_held && reading.debug_counter == 0, "the page shows the debug log");
-    expect(latency_monitor_read_page(&reading, page, 511) == LATENCY_MONITOR_REFUSED_READ_LENGTH,
-        "511 bytes are read as no page");
-    expect(!reading.debug_held, "nothing is left of the page before");
 }
 
 /* 16 bytes a line, without the lines of zeros and without the version and the GUID. */
@@ -151,5 +171,6 @@ int main(void)
         "a page of 511 bytes");
     print(page);
     read_back(page);
+    turn_pages_away(page);
     return EXIT_SUCCESS;
 }

@@ -8,7 +8,7 @@ use latency_monitor::{
     Record, Refusal, Settings as Held, Window, UNSET,
 };
 use reference::answers::Answer;
-use reference::facts::{clock, facts, window_time, Facts, WindowFacts, NO_STAMP};
+use reference::facts::{clock, window_time, Facts, WindowFacts, NO_STAMP};
 use reference::history::{Call, Command as Completed, Settings, Window as Asked, INCREMENT_MS, PAGE_LENGTH};
 use reference::page::page_bytes;
 use reference::{reading, reasons};
@@ -61,25 +61,33 @@ pub fn reason(monitor: &Monitor, history: &[Call], asked: Completed, latency_us:
     Ok((number, stamp_set))
 }
 
-/// Reads bytes into fields that are lent, and compares the answer and the fields, which are a new monitor's if the bytes
-/// are turned away. Gives the answer's number.
+/// Reads bytes into fields that are lent, and compares the answer and the fields, whose bytes must be left if the page
+/// is turned away. Gives the answer's number.
 pub fn read(lent: &mut Reading, bytes: &[u8]) -> Result<u8, String> {
+    let before = *lent.as_bytes();
     let answer = lent.read(bytes).map_or_else(Refusal::number, |()| 0);
-    let (number, due) = match reading::read_page(bytes) {
-        Ok(facts) => (0, facts),
-        Err(number) => (number, facts(&[])),
-    };
-    same("answer", answer, number)?;
-    shown(lent, &due)?;
+    match reading::read_page(bytes) {
+        Ok(facts) => {
+            same("answer", answer, 0)?;
+            shown(lent, &facts)?;
+        }
+        Err(number) => {
+            same("answer", answer, number)?;
+            same_bytes("reading", lent.as_bytes(), &before)?;
+        }
+    }
     Ok(answer)
 }
 
 /// The record has these bytes.
 pub fn left(due: &[u8], monitor: &Monitor) -> Result<(), String> {
-    let is = monitor.as_bytes();
+    same_bytes("record", monitor.as_bytes(), due)
+}
+
+fn same_bytes(what: &str, is: &[u8], due: &[u8]) -> Result<(), String> {
     match difference(is, due) {
         None => Ok(()),
-        Some(place) => Err(format!("byte {place} of the record is {:02X}, not {:02X}", is[place], due[place])),
+        Some(place) => Err(format!("byte {place} of the {what} is {:02X}, not {:02X}", is[place], due[place])),
     }
 }
 

@@ -1,9 +1,14 @@
-//! Buffers lent to a call.
+//! Buffers and readings lent to a call.
 
+use std::ops::Range;
+
+use latency_monitor::{Reading, READING_LENGTH};
 use reference::history::SETTINGS_LENGTH;
 
 /// Bytes before and behind a lent buffer, so that a store outside of it is seen; no call has more to store.
 const MARGIN: usize = SETTINGS_LENGTH;
+/// Where the header has a reading's bools.
+const READING_BOOLS: [Range<usize>; 5] = [11..12, 184..196, 368..380, 396..397, 400..401];
 
 pub struct Lent {
     bytes: Vec<u8>,
@@ -43,6 +48,16 @@ impl Lent {
             }
         }
     }
+}
+
+/// A reading filled with a pattern, 0 or 1 in each bool.
+pub fn patterned_reading(salt: u8) -> Reading {
+    let mut bytes: [u8; READING_LENGTH] = std::array::from_fn(|place| pattern(place, salt));
+    for place in READING_BOOLS.into_iter().flatten() {
+        bytes[place] = bytes[place] >> 1 & 1;
+    }
+    // SAFETY: each bool is 0 or 1, and every other field is of numbers, which may be any bytes.
+    unsafe { bytes.as_ptr().cast::<Reading>().read_unaligned() }
 }
 
 /// Neither 00h nor FFh, which most bytes of a page are.

@@ -1,12 +1,13 @@
 //! Pages to be read: of histories, of any fields, and damaged.
 
-use latency_monitor::{read_page, Reading};
+use latency_monitor::Reading;
 use reference::facts::{CounterFacts, Event, Facts, WindowFacts, COUNTERS, NO_STAMP};
 use reference::history::{Settings, PAGE_LENGTH, TIMESTAMP_TOP};
 use reference::page::page_bytes;
 use reference::random::Random;
 
 use crate::compare;
+use crate::lent::patterned_reading;
 use crate::tally::Tally;
 
 type Page = [u8; PAGE_LENGTH];
@@ -22,7 +23,7 @@ const DAMAGED: usize = 2;
 
 /// Reads a page, one of other fields, and damaged ones that are made of each.
 pub fn read_around(random: &mut Random, page: Page, tally: &mut Tally) -> Result<(), String> {
-    let lent = lent(random)?;
+    let lent = patterned_reading(random.bits() as u8);
     for page in [page, page_bytes(&any_facts(random, 75))] {
         read(&lent, &page, tally)?;
         for _ in 0..DAMAGED {
@@ -35,7 +36,7 @@ pub fn read_around(random: &mut Random, page: Page, tally: &mut Tally) -> Result
 /// Each length, each value of each byte, and each source of a debug log, on pages with no stamps, some and all.
 pub fn sweep(tally: &mut Tally) -> Result<(), String> {
     let random = &mut Random::new(0);
-    let lent = lent(random)?;
+    let lent = patterned_reading(0);
     for percent in [0, 50, 100] {
         let page = page_bytes(&any_facts(random, percent));
         for length in 0..LONGEST {
@@ -60,11 +61,6 @@ fn read(lent: &Reading, bytes: &[u8], tally: &mut Tally) -> Result<(), String> {
     let answer = compare::read(&mut { *lent }, bytes);
     tally.page(answer.map_err(|difference| format!("{bytes:02X?}\nread as a page: {difference}"))?);
     Ok(())
-}
-
-/// Fields that another page was read into, with all stamps set.
-fn lent(random: &mut Random) -> Result<Reading, String> {
-    read_page(&page_bytes(&any_facts(random, 100))).map_err(|refusal| refusal.to_string())
 }
 
 /// Facts that a page may show, also such as no history has, with so many percent of the stamps set.

@@ -4,6 +4,7 @@ use core::mem::MaybeUninit;
 
 use crate::answers::{self, Refusal};
 use crate::sys::{self, Reading};
+use crate::READING_LENGTH;
 
 /// Reads log page C3h of any drive, 512 bytes. No monitor has a part in it.
 ///
@@ -47,10 +48,16 @@ pub fn read_page(page: &[u8]) -> Result<Reading, Refusal> {
 }
 
 impl Reading {
-    /// Reads another page into the same storage, as [`read_page`] does. If it is turned away, the reading is that of a
-    /// new monitor's page.
+    /// Reads another page into the same storage, as [`read_page`] does. If it is turned away, the reading stays as it
+    /// was.
     pub fn read(&mut self, page: &[u8]) -> Result<(), Refusal> {
         // SAFETY: the reading is borrowed alone, and the length is the slice's.
         answers::accepted(unsafe { sys::latency_monitor_read_page(self, page.as_ptr(), page.len()) })
+    }
+
+    /// The reading's bytes. Those between fields mean nothing, and may differ in readings whose fields are equal.
+    pub fn as_bytes(&self) -> &[u8; READING_LENGTH] {
+        // SAFETY: every byte of a reading belongs to a field, and any bytes are an array of bytes.
+        unsafe { &*(&raw const *self).cast() }
     }
 }
