@@ -5,7 +5,8 @@ use core::fmt::{Display, Formatter, Result as Written};
 
 use crate::sys;
 
-/// Why a call is turned away, with the numbers of documents 01 and 02. 11 and 12 are of event files.
+/// Why a call is turned away, with the numbers of documents 01 and 02. No call has 11 and 12, which are of event files,
+/// or 16, which is of the program `explain`.
 #[derive(Clone, Copy, Debug, PartialEq, Eq)]
 #[repr(u8)]
 pub enum Refusal {
