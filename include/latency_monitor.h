@@ -24,7 +24,7 @@
  *
  *     cc -std=c99 -I include firmware.c liblatency_monitor.a
  *
- * It asks the firmware for memcpy and memset. The most stack that a call took when measured is 1,264 bytes; no bound on
+ * It asks the firmware for memcpy and memset. The most stack that a call took when measured is 1,128 bytes; no bound on
  * it is proved. It uses SSE2 registers and the red zone (128 bytes below the stack pointer), so it is not for code that
  * must do without.
  *
