@@ -29,6 +29,11 @@ kindFor opcode attribute =
 unfoldable pub kindOf : Command → Option ℕ
 kindOf c = kindFor (c .opcode) (c .deallocate)
 
+-- 02, Ticket 4: what is left of a kind without the attribute: no Deallocate, and any other
+abbrev pub exceptDeallocate : Option ℕ → Option ℕ
+exceptDeallocate (some k) = cond (eqb k 2) none (some k)
+exceptDeallocate none = none
+
 -- 01, A completion: whether a command is of a kind that counts at all
 abbrev isThere : Option ℕ → Bool
 isThere (some k) = true

@@ -1,8 +1,9 @@
 // A completed command: the counter that it counts for, whether it is below threshold A, and its latency in ms.
 ghost use mathlib.Core.Path.{_≡_};
-ghost use mathlib.Core.Bool.{true, false};
-ghost use Rattle.rules.specs.Commands.{kindFor, kindOf, hasKind, reaches, bucketOf, counterOf, isBelowA};
-ghost use Rattle.rules.specs.Commands.{belowAOf, millisecondsOf, saysKind, bucketNumber, counterNumber};
+ghost use mathlib.Core.Bool.{true};
+ghost use mathlib.Core.List.{_∷_, []};
+ghost use Rattle.rules.specs.Commands.{kindFor, kindOf, exceptDeallocate, hasKind, reaches, bucketOf, counterOf};
+ghost use Rattle.rules.specs.Commands.{isBelowA, belowAOf, millisecondsOf, saysKind, bucketNumber, counterNumber};
 ghost use Rattle.rules.specs.Commands.{kindNumber, highestReached, latencyAbove};
 ghost use Rattle.rules.specs.Counting.{countedBelowA};
 use crate::counting;
@@ -23,7 +24,7 @@ pub struct Command {
 pub const NOT_COUNTED: u16 = 12;
 
 // There are four buckets; this is the number of none of them.
-const NO_BUCKET: u16 = 4;
+pub const NO_BUCKET: u16 = 4;
 
 // There are three kinds; this is the number of none of them.
 pub const NO_KIND: u16 = 3;
@@ -36,7 +37,7 @@ pub fn reaches(latency: u32, threshold: u8) -> bool
 }
 
 // The kind by opcode, with the deallocate attribute or bit.
-fn kind_with(opcode: u8) -> Kind
+fn by_opcode(opcode: u8) -> Kind
     ensures { λ r. ⌜ saysKind r ≡ kindFor opcode true ⌝ }
 {
     match opcode {
@@ -48,29 +49,32 @@ fn kind_with(opcode: u8) -> Kind
     }
 }
 
-// The kind by opcode, without it.
-fn kind_without(opcode: u8) -> Kind
-    ensures { λ r. ⌜ saysKind r ≡ kindFor opcode false ⌝ }
+// What is left of a kind without the attribute. Each kind has an arm of its own, so that the compiler makes no branch.
+fn without_attribute(kind: Kind) -> Kind
+    ensures { λ r. ⌜ saysKind r ≡ exceptDeallocate (saysKind kind) ⌝ }
 {
-    match opcode {
-        2 => Kind::Read,
-        1 => Kind::Write,
-        _ => Kind::Other, // 9 and 8 too
+    match kind {
+        Kind::Read => Kind::Read,
+        Kind::Write => Kind::Write,
+        Kind::Deallocate => Kind::Other,
+        Kind::Other => Kind::Other,
     }
 }
 
-// The number of the highest bucket whose threshold is reached, or NO_BUCKET.
-fn highest(reached: [bool; 4]) -> u16
-    ensures { λ r. ⌜ r ≡ bucketNumber (highestReached reached 4) ⌝ }
+// The number of the highest bucket whose threshold is reached, or NO_BUCKET, by whether A, B, C and D are. These are
+// four parameters and no array: the compiler then makes a choice without branches of the search.
+fn highest(a: bool, b: bool, c: bool, d: bool) -> u16
+    ensures { λ r. ⌜ r ≡ bucketNumber (highestReached (a ∷ b ∷ c ∷ d ∷ []) 4) ⌝ }
 {
-    let mut b: u16 = 4;
+    let reached = [a, b, c, d];
+    let mut n: u16 = 4;
     loop {
-        if b == 0 {
+        if n == 0 {
             break NO_BUCKET;
         }
-        b -= 1;
-        if reached[b as usize] {
-            break b;
+        n -= 1;
+        if reached[n as usize] {
+            break n;
         }
     }
 }
@@ -95,15 +99,15 @@ pub fn latency_above(ms: u16) -> u32
 }
 
 impl Command {
-    // The kind of the command. Both matches are made before one is taken, so that no branch is left for a processor to
-    // guess.
+    // The kind of the command. What it is without the attribute is known before the attribute is asked, so that no
+    // branch is left for a processor to guess.
     pub fn kind(self) -> Kind
         ensures { λ r. ⌜ saysKind r ≡ kindOf self ⌝ }
     {
         let opcode = self.opcode;
-        let with = kind_with(opcode);
-        let without = kind_without(opcode);
-        if self.deallocate { with } else { without }
+        let kind = by_opcode(opcode);
+        let without = without_attribute(kind);
+        if self.deallocate { kind } else { without }
     }
 
     // Whether the command is of a kind that has counters.
@@ -113,19 +117,16 @@ impl Command {
         kind_number(self.kind()) < NO_KIND
     }
 
-    // The number of the latency's bucket, or NO_BUCKET. All four thresholds are compared before the search, so that it
-    // has few branches left for a processor to guess.
-    fn bucket(self, t: [u8; 4]) -> u16
+    // The number of the latency's bucket, or NO_BUCKET. All four thresholds are compared before the search.
+    pub fn bucket(self, t: [u8; 4]) -> u16
         ensures { λ r. ⌜ r ≡ bucketNumber (bucketOf t self) ⌝ }
     {
         let us = self.latency;
-        let reached = [
-            reaches(us, t[0]),
-            reaches(us, t[1]),
-            reaches(us, t[2]),
-            reaches(us, t[3]),
-        ];
-        highest(reached)
+        let a = reaches(us, t[0]);
+        let b = reaches(us, t[1]);
+        let c = reaches(us, t[2]);
+        let d = reaches(us, t[3]);
+        highest(a, b, c, d)
     }
 
     // The latency in ms.

@@ -76,6 +76,16 @@ without-below c without =
     (either (eqb (c .opcode) 2) (present {x = 0} (omega arith))
     (either (eqb (c .opcode) 1) (present {x = 1} (omega arith)) absent))
 
+-- there are five numbers of buckets, with that of none
+pub bucket-few :
+    (thresholds : List ℕ) (c : Command) (bucket : ℕ) → bucket ≡ bucketNumber (bucketOf thresholds c) → bucket < 5
+unfolding bucketOf
+bucket-few thresholds c bucket is = rw is (by (bucket-below thresholds (c .latency) 4))
+  where
+    by : {o : Option ℕ} → Below 4 o → bucketNumber o < 5
+    by absent = omega arith
+    by (present h) = omega arith
+
 at-below : {b k : Option ℕ} → Below 4 b → Below 3 k → Below 12 (counterAt b k)
 at-below absent q = absent
 at-below (present p) absent = absent

@@ -1,5 +1,6 @@
 -- `highest`: the buckets passed were not reached, so the search among those left decides.
 use mathlib.Core.Path.{_≡_, sym, ap, _∙_}
+use mathlib.Core.List.{_∷_, []}
 use Prim.Native.Nat.{_≤_}
 use Rattle.rules.specs.Commands.{highestReached, bucketNumber}
 use Rattle.rules.proofs.commands.Laws.{hit, miss, nothing}
@@ -8,16 +9,16 @@ use Rattle.rules.proofs.commands.highest.Statement.{statement}
 use Rattle.rules.proofs.commands.highest.Tie as tie
 
 abbrev Inv-loop : tie.InvT-loop
-Inv-loop reached b₀ b = (b ≤ 4) × (highestReached reached b ≡ highestReached reached 4)
+Inv-loop a b c d reached n₀ n = (n ≤ 4) × (highestReached reached n ≡ highestReached (a ∷ b ∷ c ∷ d ∷ []) 4)
 
 abbrev μ-loop : tie.MeasureT-loop
-μ-loop reached b₀ b = b
+μ-loop a b c d reached n₀ n = n
 
 loop-holds : tie.Need-loop-holds Inv-loop μ-loop
 loop-holds c = search needs
 
-sub-b : tie.Need-sub-b Inv-loop μ-loop
-sub-b c = search needs
+sub-n : tie.Need-sub-n Inv-loop μ-loop
+sub-n c = search needs
 
 cast-if2 : tie.Need-cast-if2 Inv-loop μ-loop
 cast-if2 c = search needs
@@ -31,15 +32,21 @@ loop-less c = search needs
 loop-again : tie.Need-loop-again Inv-loop μ-loop
 loop-again c =
     let l = c .before .before .loop in
-    (search needs, sym (miss (c .before .before .before .args .t1) (l .b) (search needs) (c .if2 .left)) ∙ l .inv .1)
+    let by = c .before .before .before .args in
+    (search needs, sym (miss (by .a ∷ by .b ∷ by .c ∷ by .d ∷ []) (l .n) (search needs) (c .if2 .left)) ∙ l .inv .1)
 
 returns : tie.Need-returns Inv-loop μ-loop
-returns c = ap bucketNumber (sym (nothing (c .before .before .args .t1)) ∙ (rw (c .if1 .taken) at (c .before .loop .inv .1)))
+returns c =
+    let by = c .before .before .args in
+    ap bucketNumber
+    (sym (nothing (by .a ∷ by .b ∷ by .c ∷ by .d ∷ [])) ∙ (rw (c .if1 .taken) at (c .before .loop .inv .1)))
 
 returns-2 : tie.Need-returns-2 Inv-loop μ-loop
 returns-2 c =
     let l = c .before .before .loop in
-    ap bucketNumber (sym (hit (c .before .before .before .args .t1) (l .b) (search needs) (c .if2 .taken)) ∙ l .inv .1)
+    let by = c .before .before .before .args in
+    ap bucketNumber
+    (sym (hit (by .a ∷ by .b ∷ by .c ∷ by .d ∷ []) (l .n) (search needs) (c .if2 .taken)) ∙ l .inv .1)
 
 pub highest-spec : {M : Type 1} → statement M
 highest-spec =
@@ -48,7 +55,7 @@ highest-spec =
     Inv-loop
     μ-loop
     loop-holds
-    sub-b
+    sub-n
     cast-if2
     array-read-if2
     loop-less

@@ -1,7 +1,7 @@
--- `kind_with`: one return for each opcode, and one for the rest.
+-- `by_opcode`: one return for each opcode, and one for the rest.
 use borrow.Author.Tests.{ne-eqb}
-use Rattle.rules.proofs.commands.kind_with.Statement.{statement}
-use Rattle.rules.proofs.commands.kind_with.Tie as tie
+use Rattle.rules.proofs.commands.by_opcode.Statement.{statement}
+use Rattle.rules.proofs.commands.by_opcode.Tie as tie
 
 returns : tie.Need-returns
 returns c = rw (c .match .keys1)
@@ -20,5 +20,5 @@ returns-5 c =
     let n = c .match .rest in
     rw (ne-eqb _ 2 (n .0 .0 .0 .1), ne-eqb _ 1 (n .0 .0 .1), ne-eqb _ 9 (n .0 .1), ne-eqb _ 8 (n .1))
 
-pub kind-with-spec : {M : Type 1} → statement M
-kind-with-spec = tie.close (tie.spec returns returns-2 returns-3 returns-4 returns-5)
+pub by-opcode-spec : {M : Type 1} → statement M
+by-opcode-spec = tie.close (tie.spec returns returns-2 returns-3 returns-4 returns-5)
