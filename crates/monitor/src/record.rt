@@ -1,7 +1,8 @@
 // The monitor's record, and the calls that take it and hand back the next one with their answer.
 ghost use mathlib.Core.Path.{_≡_};
 ghost use Prim.Native.Nat.{_<_};
-ghost use Rattle.rules.specs.Answers.{done, saysAnswer, saysCompletion, saysElapsed};
+ghost use Rattle.rules.specs.Answers.{done, saysAnswer, saysCompletion, saysBelowA, saysElapsed};
+ghost use Rattle.rules.specs.Commands.{isBelowA};
 ghost use Rattle.monitor.specs.Record.{newMonitor, afterSettings, settingsAnswer, afterCompletion, completionAnswer};
 ghost use Rattle.monitor.specs.Record.{afterElapsed, elapsedAnswer, afterClock, clockAnswer, afterPowerUp};
 ghost use Rattle.monitor.specs.Record.{loadsAt};
@@ -144,6 +145,7 @@ impl Monitor {
     pub fn completion(mut self, c: Command) -> CompletionOutcome
         ensures next { λ r. ⌜ r .next ≡ afterCompletion self c ⌝ }
         ensures answer { λ r. ⌜ saysCompletion (r .answer) ≡ completionAnswer self c ⌝ }
+        ensures below_a { λ r. ⌜ saysBelowA (r .answer) ≡ isBelowA (self .settings) c ⌝ }
     {
         let counter = c.counter(self.settings);
         if c.is_below_a(self.settings) {

@@ -39,6 +39,13 @@ saysCompletion completion.BelowA = notCounted
 saysCompletion (completion.Counted n d) = counted n false d
 saysCompletion (completion.Loaded n d) = counted n true d
 
+-- 02, Ticket 2: whether it is the case of a completion below threshold A, for which the answer is still 'not counted'
+abbrev pub saysBelowA : CompletionAnswer → Bool
+saysBelowA completion.NotCounted = false
+saysBelowA completion.BelowA = true
+saysBelowA (completion.Counted n d) = false
+saysBelowA (completion.Loaded n d) = false
+
 abbrev pub saysElapsed : ElapsedAnswer → CallAnswer
 saysElapsed (elapsed.Refused n) = refused n
 saysElapsed elapsed.Active = ended false

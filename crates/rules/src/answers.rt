@@ -4,8 +4,8 @@
 // The answer to a completion, which is never turned away.
 pub enum CompletionAnswer {
     NotCounted,
-    // 'Not counted' too, of those below threshold A: a way out of its own, for speed (docs/DECISIONS.md, 'Shape for
-    // speed'). Which of the two cases is answered is not promised.
+    // 'Not counted' too, of those below threshold A while enabled: a way out of its own, for speed (docs/DECISIONS.md,
+    // 'Shape for speed').
     BelowA,
     // Counted, with the stamp as it was; whether a debug log was taken.
     Counted { counter: u16, debug: bool },

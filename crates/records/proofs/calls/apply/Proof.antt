@@ -47,7 +47,7 @@ returns-2 c =
     (completion-call _ (r .before .before .if1 .left) _ (o .before .command .ensures)
     (sym (r .before .is-completion .ensures) ∙ r .if2 .taken))
     (o .completion .ensures .0)
-    (c .of-completion .ensures ∙ o .completion .ensures .1)
+    (c .of-completion .ensures ∙ o .completion .ensures .1 .0)
 
 returns-3 : tie.Need-returns-3
 returns-3 c =

@@ -1,6 +1,7 @@
 -- `Monitor::completion`: below threshold A; counted with the stamp loaded; counted with it kept; not counted.
 use mathlib.Core.Path.{_≡_, sym, _∙_}
 use mathlib.Core.Bool.{Bool, true, false}
+use Rattle.rules.specs.Commands.{isBelowA}
 use Rattle.rules.proofs.Counters.{is-counter, no-counter}
 use Rattle.rules.proofs.commands.Laws.{fast-uncounted}
 use Rattle.monitor.proofs.record.Laws.{uncounted, not-counted, Decided, decide}
@@ -96,29 +97,39 @@ decided c load e =
     (at-counted c .counted-at .ensures)
     (sym e ∙ c .loads .ensures)
 
+-- neither counted case is that of a completion below threshold A
+not-below :
+    (c : tie.After-loads) →
+    let args = at-counter c .before .args in
+    false ≡ isBelowA (args .self .settings) (args .c)
+not-below c =
+    let test = at-milliseconds c .before .before in sym (test .if1 .left) ∙ test .before .is-below-a .ensures
+
 returns : tie.Need-returns
 returns c =
     let test = c .before .before .before in
-    uncounted _ _ _ (fast-uncounted _ _ (sym (test .is-below-a .ensures) ∙ c .before .before .if1 .taken))
-    (c .counts-below-a .ensures)
+    let below = sym (c .before .before .if1 .taken) ∙ test .is-below-a .ensures in
+    let u = uncounted _ _ _ (fast-uncounted _ _ (sym below)) (c .counts-below-a .ensures) in
+    (u .0, (u .1, below))
 
 returns-2 : tie.Need-returns-2
 returns-2 c =
     let then = c .before .before .before .before .before .before in
     let d = decided (then .before) true (then .if3 .taken) in
-    (rw (c .of .ensures, c .before .in-window .ensures) (d .next), d .answer)
+    (rw (c .of .ensures, c .before .in-window .ensures) (d .next), (d .answer, not-below (then .before)))
 
 returns-3 : tie.Need-returns-3
 returns-3 c =
     let else = c .before .before .before .before in
     let d = decided (else .before) false (else .if3 .left) in
-    (rw (c .of2 .ensures) (d .next), d .answer)
+    (rw (c .of2 .ensures) (d .next), (d .answer, not-below (else .before)))
 
 returns-4 : tie.Need-returns-4
 returns-4 c =
     let test = c .before .before in
-    not-counted _ _ (no-counter _ _ _ (test .before .counter .ensures) (c .if2 .left))
-    (sym (test .is-below-a .ensures) ∙ c .before .if1 .left)
+    let not-below = sym (c .before .if1 .left) ∙ test .is-below-a .ensures in
+    let u = not-counted _ _ (no-counter _ _ _ (test .before .counter .ensures) (c .if2 .left)) (sym not-below) in
+    (u .0, (u .1, not-below))
 
 pub completion-spec : {M : Type 1} → statement M
 completion-spec =
