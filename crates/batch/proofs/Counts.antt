@@ -5,7 +5,7 @@ use mathlib.Core.List.{List}
 use mathlib.Core.Option.{Option, none, some}
 use Prim.Native.Nat.{ℕ, zero, suc, _+_, _*_, _-_, _≤_, _<_}
 use native.Mathlib.Omega.{arith}
-use borrow.Author.Tests.{eqb-true, eqb-false, lt-ltb, le-ltb, leb-true, le-leb, ltb-true, ltb-false}
+use borrow.Author.Tests.{eqb-true, eqb-false, lt-ltb, le-ltb, leb-false, lt-leb, ltb-true, ltb-false}
 use lib.Dec.{eqb, ltb}
 use lib.ListN.{length, getD, set, take, drop, replicate}
 use lib.Seq.{getD-take, getD-drop, getD-set-same, getD-set-other, set-getD, take-set-le, take-set-lt, drop-set-add}
@@ -14,7 +14,7 @@ use Rattle.window.specs.Fields.{unset}
 use Rattle.logpage.specs.declared.fields.Settings.{Settings}
 use Rattle.rules.specs.declared.commands.Command.{Command}
 use Rattle.monitor.specs.declared.record.Monitor.{Monitor}
-use Rattle.rules.specs.Commands.{kindOf, kindNumber, reaches, reachesA, highest, bucketOf}
+use Rattle.rules.specs.Commands.{kindOf, kindNumber, reaches, reachesA, highest, bucketOf, bucketNumber}
 use Rattle.rules.specs.Commands.{counterAt, counterOf, isBelowA, belowAOf, millisecondsOf}
 use Rattle.rules.specs.Counting.{bit, held, onceMore, onceMoreAt, loads, countedIn}
 use Rattle.monitor.specs.Record.{afterCompletion, loadsAt, triggersAt}
@@ -22,11 +22,12 @@ use Rattle.rules.specs.Refusals.{unordered}
 use Rattle.rules.specs.Timer.{inWindow}
 use Rattle.batch.specs.declared.parts.Active.{Active}
 use Rattle.batch.specs.declared.parts.Stamped.{Stamped}
-use Rattle.batch.specs.Tally.{kindPlace, reachedBelow, countPlace, heldAll, counterAtPlace, boundFor, counterBound}
+use Rattle.batch.specs.Tally.{kindPlace, countPlace, heldAll, counterAtPlace, boundFor, counterBound}
 use Rattle.batch.specs.Tally.{AtMost, boundAt, Bounds, atMostLoads, stampedBy, withActive}
 use Rattle.batch.specs.Claims.{oneMoreAt, withCounts, stampedIn, CountsAlone, StampsAlone, BoundsFollow}
 use Rattle.batch.proofs.tally.Laws.{held-at, held-set, has-counter}
-use Rattle.rules.proofs.commands.Laws.{Becomes, slow, fast, kindless, disabled, becomes, below-latency-above}
+use Rattle.rules.proofs.commands.Laws.{Becomes, slow, fast, kindless, disabled, becomes, bucket-few}
+use Rattle.rules.proofs.commands.Laws.{below-latency-above}
 
 -- counts that are at most so many, after another at a place
 pub at-most-set :
@@ -60,74 +61,36 @@ pub three-at-most :
     a ≤ top →
     b ≤ top →
     c ≤ top →
-    AtMost top (set (set (set (replicate 28 0) 0 a) 1 b) 2 c)
+    AtMost top (set (set (set (replicate 28 0) 12 a) 13 b) 14 c)
 three-at-most {top} a b c first second third =
     let none = no-count top 28 in
-    let one = at-most-set (replicate 28 0) 0 a none (omega arith) first in
-    let two = at-most-set (set (replicate 28 0) 0 a) 1 b one (omega arith) second in
-    at-most-set (set (set (replicate 28 0) 0 a) 1 b) 2 c two (omega arith) third
-
--- of the first n thresholds at most n are reached
-pub reached-few : (thresholds : List ℕ) (us n : ℕ) → reachedBelow thresholds us n ≤ n
-unfolding reachedBelow
-reached-few thresholds us zero = omega arith
-reached-few thresholds us (suc n) = by (reaches us (getD thresholds n 0)) (reached-few thresholds us n)
-  where
-    by : (t : Bool) → reachedBelow thresholds us n ≤ n → reachedBelow thresholds us n + cond t 1 0 ≤ suc n
-    by true h = omega arith
-    by false h = omega arith
-
--- a bucket, by how many thresholds are reached
-abbrev level : Option ℕ → ℕ
-level (some b) = b + 1
-level none = 0
-
--- where each threshold that is reached has those below it reached
-counted-up :
-    (a b c d : Bool) →
-    (b ≡ true → a ≡ true) →
-    (c ≡ true → b ≡ true) →
-    (d ≡ true → c ≡ true) →
-    (0 + cond a 1 0 + cond b 1 0 + cond c 1 0 + cond d 1 0 ≡
-    level (cond d (some 3) (cond c (some 2) (cond b (some 1) (cond a (some 0) none)))))
-    × (a ≡ false → 0 + cond a 1 0 + cond b 1 0 + cond c 1 0 + cond d 1 0 ≡ 0)
-counted-up true true true true ba cb dc = (refl, λ h. absurd (true≢false h))
-counted-up true true true false ba cb dc = (refl, λ h. absurd (true≢false h))
-counted-up true true false true ba cb dc = absurd (true≢false (sym (dc refl)))
-counted-up true true false false ba cb dc = (refl, λ h. absurd (true≢false h))
-counted-up true false true d ba cb dc = absurd (true≢false (sym (cb refl)))
-counted-up true false false true ba cb dc = absurd (true≢false (sym (dc refl)))
-counted-up true false false false ba cb dc = (refl, λ h. absurd (true≢false h))
-counted-up false true c d ba cb dc = absurd (true≢false (sym (ba refl)))
-counted-up false false true d ba cb dc = absurd (true≢false (sym (cb refl)))
-counted-up false false false true ba cb dc = absurd (true≢false (sym (dc refl)))
-counted-up false false false false ba cb dc = (refl, λ h. refl)
+    let one = at-most-set (replicate 28 0) 12 a none (omega arith) first in
+    let two = at-most-set (set (replicate 28 0) 12 a) 13 b one (omega arith) second in
+    at-most-set (set (set (replicate 28 0) 12 a) 13 b) 14 c two (omega arith) third
 
 neither : (a b : Bool) → (a || b) ≡ false → (a ≡ false) × (b ≡ false)
 neither false b h = (refl, h)
 neither true b h = absurd (true≢false h)
 
--- a latency that reaches a threshold reaches a lower one
-reaches-lower : (us low high : ℕ) → ltb high low ≡ false → reaches us high ≡ true → reaches us low ≡ true
-reaches-lower us low high order h =
-    le-leb (5000 * (low + 1)) us (omega (arith, ltb-false high low order, leb-true (5000 * (high + 1)) us h))
+-- a latency that does not reach a threshold reaches no higher one
+reaches-no-higher : (us low high : ℕ) → ltb high low ≡ false → reaches us low ≡ false → reaches us high ≡ false
+reaches-no-higher us low high order h =
+    lt-leb (5000 * (high + 1)) us (omega (arith, ltb-false high low order, leb-false (5000 * (low + 1)) us h))
 
--- so with thresholds in order their number says the bucket, and that there is none below threshold A
-module _ (thresholds : List ℕ) (c : Command) (in-order : unordered thresholds ≡ false) where
-  all-four :
-      (reachedBelow thresholds (c .latency) 4 ≡ level (bucketOf thresholds c))
-      × (reachesA thresholds c ≡ false → reachedBelow thresholds (c .latency) 4 ≡ 0)
-  unfolding reachedBelow bucketOf highest
-  all-four =
-      let us = c .latency in
-      let first = neither (ltb (getD thresholds 1 0) (getD thresholds 0 0)) _ in-order in
-      let rest = neither (ltb (getD thresholds 2 0) (getD thresholds 1 0)) _ (first .1) in
-      counted-up (reaches us (getD thresholds 0 0)) (reaches us (getD thresholds 1 0))
-      (reaches us (getD thresholds 2 0))
-      (reaches us (getD thresholds 3 0))
-      (reaches-lower us _ _ (first .0))
-      (reaches-lower us _ _ (rest .0))
-      (reaches-lower us _ _ (rest .1))
+-- so below threshold A there is no bucket, with thresholds in order
+below-a-bucket :
+    (thresholds : List ℕ) (c : Command) →
+    unordered thresholds ≡ false →
+    reachesA thresholds c ≡ false →
+    bucketOf thresholds c ≡ none
+unfolding bucketOf highest
+below-a-bucket thresholds c in-order a =
+    let first = neither (ltb (getD thresholds 1 0) (getD thresholds 0 0)) _ in-order in
+    let rest = neither (ltb (getD thresholds 2 0) (getD thresholds 1 0)) _ (first .1) in
+    let not-b = reaches-no-higher (c .latency) (getD thresholds 0 0) (getD thresholds 1 0) (first .0) a in
+    let not-c = reaches-no-higher (c .latency) (getD thresholds 1 0) (getD thresholds 2 0) (rest .0) not-b in
+    let not-d = reaches-no-higher (c .latency) (getD thresholds 2 0) (getD thresholds 3 0) (rest .1) not-c in
+    rw (not-d, not-c, not-b, a)
 
 -- the bucket of a counter
 bucket-is :
@@ -199,30 +162,29 @@ module _ (m : Monitor) (c : Command) (n : ℕ) (below : c .latency < counterBoun
           (rw (e, l, le-ltb latency (millisecondsOf c) (below-latency-above c latency bound)), t)
 
 -- the parts of the counts, after one more
+at-place : (t : List ℕ) (size n : ℕ) → n < size → take size (onceMoreAt t n) ≡ onceMoreAt (take size t) n
+at-place t size n h = rw (getD-take size t n 0 h) (take-set-lt size t n (onceMore (getD t n 0)) h)
+
 module _ (t : List ℕ) where
-  abbrev counters : List ℕ → List ℕ
-  counters counts = take 12 (drop 3 counts)
+  abbrev below-a : List ℕ → List ℕ
+  below-a counts = take 3 (drop 12 counts)
 
-  at-counter : (n : ℕ) → n < 12 → counters (onceMoreAt t (3 + n)) ≡ onceMoreAt (counters t) n
-  at-counter n h =
-      let there : getD (counters t) n 0 ≡ getD t (3 + n) 0 = getD-take 12 (drop 3 t) n 0 h ∙ getD-drop 3 t n 0 in
-      rw there (ap (take 12) (drop-set-add 3 t n (onceMore (getD t (3 + n) 0))) ∙
-      take-set-lt 12 (drop 3 t) n (onceMore (getD t (3 + n) 0)) h)
-
-  past-counters : (p v : ℕ) → 15 ≤ p → counters (set t p v) ≡ counters t
-  past-counters p v h =
-      let at : p ≡ 3 + (p - 3) = omega arith in
-      ap (λ (x : ℕ). counters (set t x v)) at ∙
-      (ap (take 12) (drop-set-add 3 t (p - 3) v) ∙ take-set-le 12 (drop 3 t) (p - 3) v (omega arith))
-
-  at-kind : (k : ℕ) → k < 3 → take 3 (onceMoreAt t k) ≡ onceMoreAt (take 3 t) k
+  at-kind : (k : ℕ) → k < 3 → below-a (onceMoreAt t (12 + k)) ≡ onceMoreAt (below-a t) k
   at-kind k h =
-      rw (getD-take 3 t k 0 h) (take-set-lt 3 t k (onceMore (getD t k 0)) h)
+      let there = getD-drop 12 t k 0 in
+      ap (take 3) (drop-set-add 12 t k (onceMore (getD t (12 + k) 0))) ∙
+      rw there at (at-place (drop 12 t) 3 k h)
+
+  past-kinds : (p v : ℕ) → 15 ≤ p → below-a (set t p v) ≡ below-a t
+  past-kinds p v h =
+      let at : p ≡ 12 + (p - 12) = omega arith in
+      ap (λ (x : ℕ). below-a (set t x v)) at ∙
+      (ap (take 3) (drop-set-add 12 t (p - 12) v) ∙ take-set-le 3 (drop 12 t) (p - 12) v (omega arith))
 
 -- where a completion counts, by its place
 data Placed (s : Settings) (c : Command) (p : ℕ) : Type 0 where
-  for-counter : (n : ℕ) → n < 12 → p ≡ 3 + n → counterOf s c ≡ some n → Placed s c p
-  below : (k : ℕ) → k < 3 → p ≡ k → counterOf s c ≡ none → belowAOf s c ≡ some k → Placed s c p
+  for-counter : p < 12 → counterOf s c ≡ some p → Placed s c p
+  below : (k : ℕ) → k < 3 → p ≡ 12 + k → counterOf s c ≡ none → belowAOf s c ≡ some k → Placed s c p
   nowhere : 15 ≤ p → counterOf s c ≡ none → belowAOf s c ≡ none → Placed s c p
 
 placed :
@@ -232,21 +194,20 @@ placed :
     Placed s c p
 placed s c p place in-order = by (becomes s c)
   where
-    less : (k : ℕ) → k < 3 → kindPlace (s .enabled) c ≡ k → p < 15
-    less k few added = omega (arith, added, reached-few (s .thresholds) (c .latency) 4)
-
     past : kindPlace (s .enabled) c ≡ 15 → 15 ≤ p
     past e = omega arith
 
     by : Becomes s c → Placed s c p
     by (slow k b few low on kind past-a counter) =
         let added = kind-place-is s c k few on kind in
-        let reached = all-four (s .thresholds) c (in-order (less k few added)) .0 ∙ ap level (bucket-is s c b k on kind counter) in
-        for-counter (3 * b + k) (omega arith) (omega (arith, added, reached)) counter
+        let bucket = ap bucketNumber (bucket-is s c b k on kind counter) in
+        let same : 3 * b + k ≡ p = omega (arith, added, bucket) in
+        for-counter (omega arith) (rw same at counter)
     by (fast k few on kind is counter e) =
         let added = kind-place-is s c k few on kind in
-        let reached = all-four (s .thresholds) c (in-order (less k few added)) .1 (below-is s c is) in
-        below k few (omega (arith, added, reached)) counter e
+        let less : p < 15 = omega (arith, added, bucket-few (s .thresholds) c _ refl) in
+        let bucket = ap bucketNumber (below-a-bucket (s .thresholds) c (in-order less) (below-is s c is)) in
+        below k few (omega (arith, added, bucket)) counter e
     by (kindless kind counter e) = nowhere (past (kindless-place (s .enabled) c kind)) counter e
     by (disabled off counter e) = nowhere (past (disabled-place (s .enabled) c off)) counter e
 
@@ -279,20 +240,18 @@ module _
         by :
             Placed (m .settings) c p →
             withActive m (withCounts a (oneMoreAt (a .counts) p)) ≡ afterCompletion (withActive m a) c
-        by (for-counter n few at counter) =
+        by (for-counter few counter) =
             let t = heldAll (a .counts) in
             let less : p < 15 = omega arith in
-            let back : 3 + n - 3 ≡ n = omega arith in
-            let bound = rw (at, in-order less, le-ltb (3 + n) 3 (omega arith), back) at (lower less) in
-            let only = below-bound (withActive m a) c n bound in
+            let bound = rw (in-order less, lt-ltb p 12 few) at (lower less) in
+            let only = below-bound (withActive m a) c p bound in
             rw (
-              at,
               counter,
               only .0,
               only .1,
-              held-more (a .counts) (3 + n),
-              at-counter t n few,
-              take-set-le 3 t (3 + n) (onceMore (getD t (3 + n) 0)) (omega arith),
+              held-more (a .counts) p,
+              at-place t 12 p few,
+              drop-set-lt 12 t p (onceMore (getD t p 0)) few,
             )
         by (below k few at counter e) =
             let t = heldAll (a .counts) in
@@ -300,14 +259,14 @@ module _
               at,
               counter,
               e,
-              held-more (a .counts) k,
+              held-more (a .counts) (12 + k),
               at-kind t k few,
-              drop-set-lt 3 t k (onceMore (getD t k 0)) few,
+              take-set-le 12 t (12 + k) (onceMore (getD t (12 + k) 0)) (omega arith),
             )
         by (nowhere h counter e) =
             let t = heldAll (a .counts) in
             let v = onceMore (getD t p 0) in
-            rw (counter, e, held-more (a .counts) p, past-counters t p v h, take-set-le 3 t p v (omega arith))
+            rw (counter, e, held-more (a .counts) p, past-kinds t p v h, take-set-le 12 t p v (omega arith))
 
 -- a place that is written, or written as it was
 set-or-keep :
@@ -334,48 +293,37 @@ module _
     unfolding stampedBy
     can-load = rw is at at-most
 
-    its-counter : p ≡ 3 + n
-    its-counter =
-        let has = has-counter m p can-load in
-        let counter : n ≡ p - 3 = rw (le-ltb p 3 (has .0), lt-ltb p 15 (has .1)) at number in
-        omega (arith, has .0)
-
-    back : p - 3 ≡ n
-    back = omega (arith, its-counter)
-
-    no-log : triggersAt m n ≡ false
-    no-log = rw back at (has-counter m p can-load .3)
+    its-counter : n ≡ p
+    its-counter = rw (lt-ltb p 12 (has-counter m p can-load .0)) at number
 
     stamped-alone : withActive m (stampedIn a p n l) ≡ afterCompletion (withActive m a) c
     unfolding afterCompletion countedIn stampedBy
-    stamped-alone = by (placed (m .settings) c p place (λ less. has-counter m p can-load .2))
+    stamped-alone = by (placed (m .settings) c p place (λ less. has-counter m p can-load .1))
       where
         by : Placed (m .settings) c p → withActive m (stampedIn a p n l) ≡ afterCompletion (withActive m a) c
-        by (below k few at counter e) = absurd (omega (arith, its-counter))
-        by (nowhere h counter e) = absurd (omega (arith, has-counter m p can-load))
-        by (for-counter x few at counter) =
-            let same : x ≡ n = omega (arith, its-counter) in
+        by (below k few at counter e) = absurd (omega (arith, has-counter m p can-load .0))
+        by (nowhere h counter e) = absurd (omega (arith, has-counter m p can-load .0))
+        by (for-counter few counter) =
             let t = heldAll (a .counts) in
-            let load = loadsAt (withActive m a) n (millisecondsOf c) in
+            let load = loadsAt (withActive m a) p (millisecondsOf c) in
             rw (
               is,
-              can-load,
-              back,
-              rw same at counter,
-              no-log,
               its-counter,
-              held-more (a .counts) (3 + n),
-              at-counter t n (rw same at few),
-              take-set-le 3 t (3 + n) (onceMore (getD t (3 + n) 0)) (omega arith),
-              set-or-keep load (a .stamps) n (m .clock) 0,
-              set-or-keep load (a .latencies) n (millisecondsOf c) 0,
-              set-or-keep load (a .units) n (m .«host_set») false,
-              set-or-keep load (a .loaded) n (inWindow (m .timer) (m .partial)) 0,
+              can-load,
+              counter,
+              has-counter m p can-load .2,
+              held-more (a .counts) p,
+              at-place t 12 p few,
+              drop-set-lt 12 t p (onceMore (getD t p 0)) few,
+              set-or-keep load (a .stamps) p (m .clock) 0,
+              set-or-keep load (a .latencies) p (millisecondsOf c) 0,
+              set-or-keep load (a .units) p (m .«host_set») false,
+              set-or-keep load (a .loaded) p (inWindow (m .timer) (m .partial)) 0,
             )
 
-    its-bound : l .bound ≡ boundFor m n (l .stamp) (l .latency)
+    its-bound : l .bound ≡ boundFor m p (l .stamp) (l .latency)
     unfolding stampedBy
-    its-bound = rw (is, can-load, back)
+    its-bound = rw (is, can-load)
 
     -- the bounds follow
     stamped-bounds :
@@ -387,22 +335,15 @@ module _
     unfolding boundAt boundFor
     stamped-bounds before all twelve as-many q h = by (eqb q p) refl
       where
-        few : n < 12
-        few = omega (arith, its-counter, has-counter m p can-load)
+        few : p < 12
+        few = has-counter m p can-load .0
 
-        elsewhere :
-            (q ≡ p → ⊥) →
-            (t : Bool) →
-            ltb q 3 ≡ t →
-            boundAt (withActive m a) q ≡ boundAt (withActive m (stampedIn a p n l)) q
-        elsewhere other true e = rw (has-counter m p can-load .2, e)
-        elsewhere other false e =
-            let apart : (q - 3 ≡ n → ⊥) = λ same. other (omega (arith, ltb-false q 3 e, its-counter)) in
+        elsewhere : (q ≡ p → ⊥) → boundAt (withActive m a) q ≡ boundAt (withActive m (stampedIn a p n l)) q
+        elsewhere other =
             rw (
-              has-counter m p can-load .2,
-              e,
-              getD-set-other (a .stamps) n (q - 3) (l .stamp) 0 apart,
-              getD-set-other (a .latencies) n (q - 3) (l .latency) 0 apart,
+              its-counter,
+              getD-set-other (a .stamps) p q (l .stamp) 0 other,
+              getD-set-other (a .latencies) p q (l .latency) 0 other,
             )
 
         by : (t : Bool) → eqb q p ≡ t → getD (set (a .bounds) p (l .bound)) q 0 ≡ boundAt (withActive m (stampedIn a p n l)) q
@@ -410,17 +351,17 @@ module _
             let same : q ≡ p = eqb-true q p e in
             rw (
               same,
-              getD-set-same (a .bounds) p (l .bound) 0 (omega (arith, has-counter m p can-load)),
-              has-counter m p can-load .2,
-              le-ltb p 3 (has-counter m p can-load .0),
-              back,
-              getD-set-same (a .stamps) n (l .stamp) 0 (omega (arith, few)),
-              getD-set-same (a .latencies) n (l .latency) 0 (omega (arith, few)),
+              its-counter,
+              getD-set-same (a .bounds) p (l .bound) 0 (omega (arith, few)),
+              has-counter m p can-load .1,
+              lt-ltb p 12 few,
+              getD-set-same (a .stamps) p (l .stamp) 0 (omega (arith, few)),
+              getD-set-same (a .latencies) p (l .latency) 0 (omega (arith, few)),
             )
             its-bound
         by false e =
             let other = eqb-false q p e in
-            getD-set-other (a .bounds) p q (l .bound) 0 other ∙ (before q h ∙ elsewhere other (ltb q 3) refl)
+            getD-set-other (a .bounds) p q (l .bound) 0 other ∙ (before q h ∙ elsewhere other)
 
 pub counts-alone : CountsAlone
 counts-alone = counted-alone
@@ -446,14 +387,8 @@ kind-place-few true c = by (kindNumber (kindOf c))
 
 -- the counter of a place is one of twelve
 pub few-counters : (place : ℕ) → counterAtPlace place < 12
-few-counters place = by (ltb place 3) refl (ltb place 15) refl
+few-counters place = by (ltb place 12) refl
   where
-    by :
-        (low : Bool) →
-        ltb place 3 ≡ low →
-        (high : Bool) →
-        ltb place 15 ≡ high →
-        cond low 0 (cond high (place - 3) 0) < 12
-    by true l high h = omega arith
-    by false l true h = omega (arith, ltb-false place 3 l, ltb-true place 15 h)
-    by false l false h = omega arith
+    by : (t : Bool) → ltb place 12 ≡ t → cond t place 0 < 12
+    by true e = ltb-true place 12 e
+    by false e = omega arith

@@ -1,11 +1,11 @@
-// The active window, taken out of the record for a loop over many completions. Its counts stand in one array: those below
-// threshold A, by kind, at places 0 to 2, and counter n's at 3 + n. From place 15 on none is kept. Counts go on past their
-// top, where the record holds them.
+// The active window, taken out of the record for a loop over many completions. Its counts stand in one array: counter
+// n's at place n, and those below threshold A, by kind, at 12 to 14. From place 15 on none is kept. Counts go on past
+// their top, where the record holds them.
 ghost use mathlib.Core.Path.{_≡_};
 ghost use Prim.Native.Nat.{_≤_};
 ghost use lib.ListN.{take, drop};
 ghost use Rattle.rules.specs.Counting.{held};
-ghost use Rattle.batch.specs.Tally.{kindPlace, KindPlaces, reachedBelow, heldAll, AtMost, counterAtPlace};
+ghost use Rattle.batch.specs.Tally.{BucketPlaces, kindPlace, KindPlaces, heldAll, AtMost, counterAtPlace};
 ghost use Rattle.batch.specs.Tally.{boundFor, Bounds, atMostLoads, stampedBy, withActive};
 use crate::parts::Active;
 use crate::parts::Stamped;
@@ -18,15 +18,23 @@ use rules::timer;
 use window::UNSET;
 use window::Window;
 
-// The places that hold a count, and the first of those that hold none.
-const PLACES: usize = 15;
+// The places that hold a counter.
+const COUNTERS: usize = 12;
 
+// The first place that holds no count.
 const NO_PLACE: u8 = 15;
 
 // The bound where a completion can only count: every latency but the largest is below it.
 const NO_BOUND: u32 = 4_294_967_295;
 
-// What a command's kind adds to the place of its count.
+// The place of each bucket's first count. Where a latency has no bucket, it is below threshold A.
+pub fn bucket_places() -> [usize; 5]
+    ensures { λ r. ⌜ BucketPlaces r ⌝ }
+{
+    [0, 3, 6, 9, 12]
+}
+
+// What a command's kind adds to that.
 fn kind_place(enabled: bool, c: Command) -> u8
     ensures { λ r. ⌜ r ≡ kindPlace enabled c ⌝ }
 {
@@ -42,8 +50,8 @@ fn kind_place(enabled: bool, c: Command) -> u8
     }
 }
 
-// That by the command's code, for all of them: a table has no branch that a processor could guess wrong. No opcode from
-// 16 on has a kind.
+// The same by the command's code, for all of them: a table has no branch that a processor could guess wrong. No opcode
+// from 16 on has a kind.
 pub fn kind_places(enabled: bool) -> [u8; 512]
     ensures { λ r. ⌜ KindPlaces enabled r ⌝ }
 {
@@ -59,20 +67,6 @@ pub fn kind_places(enabled: bool) -> [u8; 512]
         i += 1;
     }
     places
-}
-
-// How many thresholds the latency reaches. All four are compared, and none by a branch.
-pub fn reached(c: Command, thresholds: [u8; 4]) -> usize
-    ensures { λ r. ⌜ r ≡ reachedBelow thresholds (c .latency) 4 ⌝ }
-{
-    let latency = c.latency;
-    let mut reached = 0;
-    let mut b = 0;
-    while b < 4 {
-        reached += counting::one_if(commands::reaches(latency, thresholds[b])) as usize;
-        b += 1;
-    }
-    reached
 }
 
 // A count of the record, to go on from.
@@ -96,17 +90,17 @@ fn held(count: u64) -> u32
 
 // Counts below threshold A and counters in one array.
 fn joined(below: [u32; 3], counters: [u32; 12]) -> [u64; 28]
-    ensures below { λ r. ⌜ take 3 (heldAll r) ≡ below ⌝ }
-    ensures counters { λ r. ⌜ take 12 (drop 3 (heldAll r)) ≡ counters ⌝ }
+    ensures below { λ r. ⌜ take 3 (drop 12 (heldAll r)) ≡ below ⌝ }
+    ensures counters { λ r. ⌜ take 12 (heldAll r) ≡ counters ⌝ }
     ensures top { λ r. ⌜ AtMost 4294967295 r ⌝ }
 {
     let mut counts: [u64; 28] = [0; 28];
-    counts[0] = wide(below[0]);
-    counts[1] = wide(below[1]);
-    counts[2] = wide(below[2]);
+    counts[12] = wide(below[0]);
+    counts[13] = wide(below[1]);
+    counts[14] = wide(below[2]);
     let mut n = 0;
     while n < 12 {
-        counts[n + 3] = wide(counters[n]);
+        counts[n] = wide(counters[n]);
         n += 1;
     }
     counts
@@ -114,19 +108,19 @@ fn joined(below: [u32; 3], counters: [u32; 12]) -> [u64; 28]
 
 // The counts below threshold A of such an array.
 fn below_of(counts: [u64; 28]) -> [u32; 3]
-    ensures { λ r. ⌜ r ≡ take 3 (heldAll counts) ⌝ }
+    ensures { λ r. ⌜ r ≡ take 3 (drop 12 (heldAll counts)) ⌝ }
 {
-    [held(counts[0]), held(counts[1]), held(counts[2])]
+    [held(counts[12]), held(counts[13]), held(counts[14])]
 }
 
 // The counters of such an array.
 fn counters_of(counts: [u64; 28]) -> [u32; 12]
-    ensures { λ r. ⌜ r ≡ take 12 (drop 3 (heldAll counts)) ⌝ }
+    ensures { λ r. ⌜ r ≡ take 12 (heldAll counts) ⌝ }
 {
     let mut counters: [u32; 12] = [0; 12];
     let mut n = 0;
     while n < 12 {
-        counters[n] = held(counts[n + 3]);
+        counters[n] = held(counts[n]);
         n += 1;
     }
     counters
@@ -136,11 +130,7 @@ fn counters_of(counts: [u64; 28]) -> [u32; 12]
 pub fn counter_at(place: usize) -> usize
     ensures { λ r. ⌜ r ≡ counterAtPlace place ⌝ }
 {
-    if place < PLACES {
-        if place < 3 { 0 } else { place - 3 }
-    } else {
-        0
-    }
+    if place < COUNTERS { place } else { 0 }
 }
 
 // The latency from which on a completion for counter n, with this stamp and measured latency, may load the stamp, or
@@ -173,7 +163,7 @@ fn bounds(m: Monitor) -> [u32; 28]
     let latencies = m.active_window.latencies;
     let mut n = 0;
     while n < 12 {
-        bounds[n + 3] = bound(m, n, stamps[n], latencies[n]);
+        bounds[n] = bound(m, n, stamps[n], latencies[n]);
         n += 1;
     }
     bounds
@@ -221,18 +211,16 @@ pub fn with_active(mut m: Monitor, a: Active) -> Monitor
 }
 
 // Whether a completion has a counter, by its place, which says it for thresholds in order, and takes no debug log: then
-// it loads the stamp, at the most.
+// it loads the stamp, at the most. Out of order the rule asks threshold A first, and the search for a bucket does not.
 fn at_most_loads(m: Monitor, place: usize) -> bool
     ensures { λ r. ⌜ r ≡ atMostLoads m place ⌝ }
 {
     let thresholds = m.settings.thresholds;
-    if place < 3 {
-        false
-    } else if place < PLACES {
+    if place < COUNTERS {
         if settings::unordered(thresholds) {
             false
         } else {
-            !counting::triggers(m.settings.trigger, place - 3, m.debug.stamp)
+            !counting::triggers(m.settings.trigger, place, m.debug.stamp)
         }
     } else {
         false
@@ -252,13 +240,12 @@ pub fn stamped(
     ensures { λ r. ⌜ r ≡ stampedBy m place c stamp latency units loaded ⌝ }
 {
     if at_most_loads(m, place) {
-        let n = place - 3;
         let ms = c.milliseconds();
         let time = timer::in_window(m.timer, m.partial);
-        let largest = counting::bit(m.settings.mode, n);
+        let largest = counting::bit(m.settings.mode, place);
         let minimum = m.settings.minimum_window;
         if counting::loads(stamp, latency, loaded, ms, largest, minimum, time) {
-            let bound = bound(m, n, m.clock, ms);
+            let bound = bound(m, place, m.clock, ms);
             Stamped {
                 stamp: m.clock,
                 latency: ms,
@@ -268,7 +255,7 @@ pub fn stamped(
                 alone: true,
             }
         } else {
-            let bound = bound(m, n, stamp, latency);
+            let bound = bound(m, place, stamp, latency);
             Stamped {
                 stamp,
                 latency,

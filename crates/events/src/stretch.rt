@@ -21,6 +21,7 @@ pub(crate) fn stretch(m: Monitor, s: &[u8]) -> Played
     ensures accepted { λ r. ⌜ NoneRefused (now (s .entry)) (r .records) ⌝ }
 {
     let thresholds = m.settings.thresholds;
+    let buckets = tally::bucket_places();
     let kinds = tally::kind_places(m.settings.enabled);
     let mut a = tally::active(m);
     let mut monitor = m;
@@ -31,7 +32,7 @@ pub(crate) fn stretch(m: Monitor, s: &[u8]) -> Played
         let r = &s[from..from + records::RECORD];
         if records::is_completion(r) {
             let c = records::command(r);
-            let place = 3 * tally::reached(c, thresholds) + kinds[records::code(r)] as usize;
+            let place = buckets[c.bucket(thresholds) as usize] + kinds[records::code(r)] as usize;
             if c.latency < a.bounds[place] {
                 a.counts[place] += 1;
                 i += 1;

@@ -30,7 +30,7 @@ pub const NO_BUCKET: u16 = 4;
 pub const NO_KIND: u16 = 3;
 
 // Whether a latency reaches a threshold, whose byte v means 5 x (v + 1) ms.
-pub fn reaches(latency: u32, threshold: u8) -> bool
+fn reaches(latency: u32, threshold: u8) -> bool
     ensures { λ r. ⌜ r ≡ reaches latency threshold ⌝ }
 {
     5000 * (threshold as u32 + 1) <= latency

@@ -27,7 +27,7 @@ fn one_bit(n: usize) -> u16
 }
 
 // A flag as a number.
-pub fn one_if(b: bool) -> u32
+fn one_if(b: bool) -> u32
     ensures { λ r. ⌜ r ≡ cond b 1 0 ⌝ }
 {
     if b { 1 } else { 0 }

@@ -3,13 +3,12 @@ use mathlib.Core.Path.{_≡_, refl, sym, ap, _∙_}
 use mathlib.Core.Bool.{Bool, true, false, cond, not, _&&_, true≢false}
 use mathlib.Core.List.{List, [], _∷_}
 use mathlib.Core.Option.{none}
-use Prim.Native.Nat.{ℕ, zero, suc, _+_, _-_, _*_, _/_, _%_, _≤_, _<_}
-use native.Mathlib.Nat.{add-zero}
+use Prim.Native.Nat.{ℕ, zero, suc, _+_, _*_, _/_, _%_, _≤_, _<_}
 use native.Mathlib.Omega.{arith}
 use borrow.Author.Tests.{eqb-true, eqb-false, eq-eqb, ne-eqb, ltb-true, ltb-false}
 use lib.Dec.{eqb, ltb}
-use lib.ListN.{length, getD, set, take, drop, replicate, length-take, length-drop, getD-replicate, List·getD-map}
-use lib.Seq.{getD-set-same, getD-set-other, getD-take, getD-drop, ext-getD}
+use lib.ListN.{length, getD, set, take, replicate, length-take, getD-replicate, List·getD-map}
+use lib.Seq.{getD-set-same, getD-set-other, getD-take, ext-getD}
 use Rattle.rules.specs.declared.commands.Command.{Command}
 use Rattle.rules.specs.Commands.{kindOf}
 use Rattle.rules.specs.Counting.{held}
@@ -18,22 +17,21 @@ use Rattle.rules.specs.Refusals.{unordered}
 use Rattle.monitor.specs.Record.{triggersAt}
 use Rattle.batch.specs.Tally.{codeOf, kindPlace, heldAll, counterBound, boundAt, Bounds, atMostLoads}
 
--- a table whose places hold f, as many as i, from a first place on
-module _ (f : ℕ → ℕ) (at : ℕ) where
+-- a table whose first places, as many as i, hold f
+module _ (f : ℕ → ℕ) where
   abbrev pub Filled : List ℕ → ℕ → Type 0
-  Filled l i = (j : ℕ) → j < i → getD l (j + at) 0 ≡ f j
+  Filled l i = (j : ℕ) → j < i → getD l j 0 ≡ f j
 
-  pub filled-more :
-      (l : List ℕ) (i v : ℕ) → Filled l i → i + at < length l → v ≡ f i → Filled (set l (i + at) v) (i + 1)
+  pub filled-more : (l : List ℕ) (i v : ℕ) → Filled l i → i < length l → v ≡ f i → Filled (set l i v) (i + 1)
   filled-more l i v before room e j h = by (eqb j i) refl
     where
-      by : (t : Bool) → eqb j i ≡ t → getD (set l (i + at) v) (j + at) 0 ≡ f j
+      by : (t : Bool) → eqb j i ≡ t → getD (set l i v) j 0 ≡ f j
       by true s =
           let same : j ≡ i = eqb-true j i s in
-          rw same (getD-set-same l (i + at) v 0 room ∙ e)
+          rw same (getD-set-same l i v 0 room ∙ e)
       by false s =
           let other = eqb-false j i s in
-          getD-set-other l (i + at) (j + at) v 0 (λ (x : j + at ≡ i + at). other (omega arith)) ∙ before j (omega arith)
+          getD-set-other l i j v 0 other ∙ before j (omega arith)
 
 -- a command of each code
 abbrev pub commandAt : ℕ → Command
@@ -86,26 +84,12 @@ pub the-counters :
     (counts counters : List ℕ) →
     length counts ≡ 28 →
     length counters ≡ 12 →
-    Filled (λ (j : ℕ). getD counters j 0) 3 counts 12 →
-    take 12 (drop 3 counts) ≡ counters
+    Filled (λ (j : ℕ). getD counters j 0) counts 12 →
+    take 12 counts ≡ counters
 the-counters counts counters all twelve filled =
-    let size : length (take 12 (drop 3 counts)) ≡ 12 =
-    omega (arith, length-take 12 (drop 3 counts), length-drop 3 counts)
-    in
-    ext-getD 0 (take 12 (drop 3 counts)) counters (size ∙ sym twelve)
-    (λ i h. getD-take 12 (drop 3 counts) i 0 (omega arith) ∙ (getD-drop 3 counts i 0 ∙ by i (omega arith)))
-  where
-    by : (i : ℕ) → i < 12 → getD counts (3 + i) 0 ≡ getD counters i 0
-    by i h = let places : 3 + i ≡ i + 3 = omega arith in rw places (filled i h)
-
-pub taken-counters :
-    (counts counters : List ℕ) →
-    length counts ≡ 28 →
-    length counters ≡ 12 →
-    Filled (λ (j : ℕ). getD counts (j + 3) 0) 0 counters 12 →
-    counters ≡ take 12 (drop 3 counts)
-taken-counters counts counters all twelve filled =
-    sym (the-counters counts counters all twelve (λ j h. sym (rw (add-zero j) at (filled j h))))
+    let size : length (take 12 counts) ≡ 12 = omega (arith, length-take 12 counts) in
+    ext-getD 0 (take 12 counts) counters (size ∙ sym twelve)
+    (λ i h. getD-take 12 counts i 0 (omega arith) ∙ filled i (omega arith))
 
 pub first-three : (l : List ℕ) → 3 ≤ length l → getD l 0 0 ∷ getD l 1 0 ∷ getD l 2 0 ∷ [] ≡ take 3 l
 first-three [] h = absurd (omega arith)
@@ -121,51 +105,35 @@ no-bounds m out place h = rw out (getD-replicate 28 place 0 0 (omega arith))
 pub all-bounds :
     (m : Monitor) (bounds : List ℕ) →
     unordered (m .settings .thresholds) ≡ false →
-    ((place : ℕ) → place < 3 → getD bounds place 0 ≡ 4294967295) →
-    Filled (counterBound m) 3 bounds 12 →
+    Filled (counterBound m) bounds 12 →
+    ((place : ℕ) → 12 ≤ place → place < 15 → getD bounds place 0 ≡ 4294967295) →
     Bounds m bounds
 unfolding boundAt
-all-bounds m bounds in-order below filled place h = rw in-order (by (ltb place 3) refl)
+all-bounds m bounds in-order filled below place h = rw in-order (by (ltb place 12) refl)
   where
-    by :
-        (t : Bool) →
-        ltb place 3 ≡ t →
-        getD bounds place 0 ≡ cond (ltb place 3) 4294967295 (counterBound m (place - 3))
-    by true e = rw e (below place (ltb-true place 3 e))
-    by false e =
-        let from = ltb-false place 3 e in
-        let back : place - 3 + 3 ≡ place = omega (arith, from) in
-        rw e (rw back at (filled (place - 3) (omega (arith, from))))
+    by : (t : Bool) → ltb place 12 ≡ t → getD bounds place 0 ≡ cond (ltb place 12) (counterBound m place) 4294967295
+    by true e = rw e (filled place (ltb-true place 12 e))
+    by false e = rw e (below place (ltb-false place 12 e) h)
 
 -- a completion at such a place has a counter, and takes no debug log
 pub has-counter :
     (m : Monitor) (place : ℕ) →
     atMostLoads m place ≡ true →
-    (3 ≤ place)
-    × (place < 15)
-    × (unordered (m .settings .thresholds) ≡ false)
-    × (triggersAt m (place - 3) ≡ false)
+    (place < 12) × (unordered (m .settings .thresholds) ≡ false) × (triggersAt m place ≡ false)
 unfolding atMostLoads
 has-counter m place e =
-    by (ltb place 3) refl (ltb place 15) refl (unordered (m .settings .thresholds)) refl (triggersAt m (place - 3)) refl
-    e
+    by (ltb place 12) refl (unordered (m .settings .thresholds)) refl (triggersAt m place) refl e
   where
     by :
-        (low : Bool) →
-        ltb place 3 ≡ low →
-        (high : Bool) →
-        ltb place 15 ≡ high →
+        (counter : Bool) →
+        ltb place 12 ≡ counter →
         (out : Bool) →
         unordered (m .settings .thresholds) ≡ out →
         (takes : Bool) →
-        triggersAt m (place - 3) ≡ takes →
-        (not low && (high && (not out && not takes))) ≡ true →
-        (3 ≤ place)
-        × (place < 15)
-        × (unordered (m .settings .thresholds) ≡ false)
-        × (triggersAt m (place - 3) ≡ false)
-    by false l true h false o false t e = (ltb-false place 3 l, ltb-true place 15 h, o, t)
-    by true l high h out o takes t e = absurd (true≢false (sym e))
-    by false l false h out o takes t e = absurd (true≢false (sym e))
-    by false l true h true o takes t e = absurd (true≢false (sym e))
-    by false l true h false o true t e = absurd (true≢false (sym e))
+        triggersAt m place ≡ takes →
+        (counter && (not out && not takes)) ≡ true →
+        (place < 12) × (unordered (m .settings .thresholds) ≡ false) × (triggersAt m place ≡ false)
+    by true n false o false t e = (ltb-true place 12 n, o, t)
+    by false n out o takes t e = absurd (true≢false (sym e))
+    by true n true o takes t e = absurd (true≢false (sym e))
+    by true n false o true t e = absurd (true≢false (sym e))

@@ -9,6 +9,8 @@ use borrow.Author.Tests.{eqb-true, eqb-false}
 use lib.Dec.{eqb}
 use lib.ListN.{getD, set, length, length-set}
 use Rattle.rules.specs.declared.commands.Command.{Command}
+use Rattle.rules.specs.Commands.{bucketOf, bucketNumber}
+use Rattle.rules.proofs.commands.Laws.{bucket-few}
 use Rattle.batch.specs.declared.parts.Passed.{Passed}
 use Rattle.monitor.specs.declared.record.Monitor.{Monitor}
 use Rattle.batch.specs.declared.parts.Active.{Active}
@@ -16,10 +18,10 @@ use Rattle.batch.specs.declared.parts.Stamped.{Stamped}
 use Rattle.monitor.specs.Calls.{Call, settings, completion, elapsed, clock, powerUp, page, settingsBack, belowA}
 use Rattle.monitor.specs.Calls.{playFrom, found}
 use Rattle.batch.specs.Passing.{standing, passedBy, clockedBy, timeBy, withTime}
-use Rattle.batch.specs.Tally.{codeOf, KindPlaces, reachedBelow, countPlace, AtMost, counterAtPlace, boundFor, boundAt}
+use Rattle.batch.specs.Tally.{BucketPlaces, codeOf, KindPlaces, countPlace, AtMost, counterAtPlace, boundFor, boundAt}
 use Rattle.batch.specs.Tally.{Bounds, stampedBy, withActive}
 use Rattle.batch.specs.Claims.{withCounts, stampedIn}
-use Rattle.batch.proofs.Counts.{counts-alone, stamps-alone, bounds-follow, at-most-set, kind-place-few, reached-few}
+use Rattle.batch.proofs.Counts.{counts-alone, stamps-alone, bounds-follow, at-most-set, kind-place-few}
 use Rattle.records.specs.Records.{callOf, recordRefusal, afterRecord, timedBy}
 use Rattle.events.specs.Files.{recordAt, wholeRecords, NoneRefused}
 use Rattle.records.proofs.Laws.{completion-accepted, timed-alone}
@@ -29,7 +31,7 @@ use Rattle.events.proofs.files.Laws.{Replayed, one-more}
 -- and the tables are those of its settings, stamps and latencies
 pub record Stretched
     (m : Monitor)
-    (s thresholds kinds : List ℕ)
+    (s thresholds buckets kinds : List ℕ)
     (a : Active)
     (monitor : Monitor)
     (end i : ℕ)
@@ -38,6 +40,7 @@ pub record Stretched
     pub before : i ≤ end
     pub within : end ≤ wholeRecords s
     pub in-force : thresholds ≡ monitor .settings .thresholds
+    pub first-places : BucketPlaces buckets
     pub places : KindPlaces (monitor .settings .enabled) kinds
     pub bound : Bounds (withActive monitor a) (a .bounds)
     pub sizes : (length (a .bounds) ≡ 28) × (length (a .stamps) ≡ 12) × (length (a .latencies) ≡ 12)
@@ -78,19 +81,20 @@ accepted-more s i before here j h = by (eqb j i) refl
 
 module _
     {m : Monitor}
-    {s thresholds kinds : List ℕ}
+    {s thresholds buckets kinds : List ℕ}
     {a : Active}
     {monitor : Monitor}
     {end i : ℕ}
-    (at : Stretched m s thresholds kinds a monitor end i)
+    (at : Stretched m s thresholds buckets kinds a monitor end i)
   where
     -- the first record that does more ends the stretch
-    pub stretch-ends : Stretched m s thresholds kinds a monitor i i
+    pub stretch-ends : Stretched m s thresholds buckets kinds a monitor i i
     stretch-ends =
         record {
           before = omega arith;
           within = omega (arith, at .before, at .within);
           in-force = at .in-force;
+          first-places = at .first-places;
           places = at .places;
           bound = at .bound;
           sizes = at .sizes;
@@ -103,17 +107,26 @@ module _
     pub added : (c : Command) (code : ℕ) → (code ≡ codeOf c) × (code < 512) → getD kinds code 0 ≤ 15
     added c code e = rw (e .0, at .places c (rw (e .0) at (e .1))) (kind-place-few (monitor .settings .enabled) c)
 
-    pub few-reached : (us reached : ℕ) → reached ≡ reachedBelow thresholds us 4 → reached ≤ 4
-    few-reached us reached e = omega (arith, reached-few thresholds us 4)
+    -- and where its bucket's places begin
+    pub begins : (c : Command) (bucket : ℕ) → bucket ≡ bucketNumber (bucketOf thresholds c) → getD buckets bucket 0 ≤ 12
+    begins c bucket e =
+        let few = bucket-few thresholds c bucket e in
+        omega (arith, few, at .first-places bucket few)
 
     -- the place of a completion's count
     in-place :
-        (c : Command) (code reached : ℕ) →
+        (c : Command) (code bucket : ℕ) →
         (code ≡ codeOf c) × (code < 512) →
-        reached ≡ reachedBelow thresholds (c .latency) 4 →
-        3 * reached + getD kinds code 0 ≡ countPlace (monitor .settings) c
-    in-place c code reached code-is reached-is =
-        rw (← at .places c (rw (code-is .0) at (code-is .1)), ← at .in-force, ← reached-is, code-is .0)
+        bucket ≡ bucketNumber (bucketOf thresholds c) →
+        getD buckets bucket 0 + getD kinds code 0 ≡ countPlace (monitor .settings) c
+    in-place c code bucket code-is bucket-is =
+        rw (
+          at .first-places bucket (bucket-few thresholds c bucket bucket-is),
+          ← at .places c (rw (code-is .0) at (code-is .1)),
+          ← at .in-force,
+          ← bucket-is,
+          code-is .0,
+        )
 
     module _ (r : List ℕ) (here : r ≡ recordAt s i) (more : i < end) where
       next :
@@ -125,12 +138,13 @@ module _
           AtMost (4294967295 + (i + 1)) (a' .counts) →
           recordRefusal r ≡ none →
           withActive monitor' a' ≡ afterRecord (withActive monitor a) r →
-          Stretched m s thresholds kinds a' monitor' end (i + 1)
+          Stretched m s thresholds buckets kinds a' monitor' end (i + 1)
       next a' monitor' in-force places bound sizes room none-refused same =
           record {
             before = omega arith;
             within = at .within;
             in-force = in-force;
+            first-places = at .first-places;
             places = places;
             bound = bound;
             sizes = sizes;
@@ -143,22 +157,22 @@ module _
       module _
           (c : Command)
           (call : callOf r ≡ some (completion c))
-          (code reached place count : ℕ)
+          (code bucket place count : ℕ)
           (code-is : (code ≡ codeOf c) × (code < 512))
-          (reached-is : reached ≡ reachedBelow thresholds (c .latency) 4)
-          (place-is : place ≡ 3 * reached + getD kinds code 0)
+          (bucket-is : bucket ≡ bucketNumber (bucketOf thresholds c))
+          (place-is : place ≡ getD buckets bucket 0 + getD kinds code 0)
           (count-is : count ≡ getD (a .counts) place 0 + 1)
         where
           more-room : AtMost (4294967295 + (i + 1)) (set (a .counts) place count)
           more-room = at-most-set (a .counts) place count (at .room) (omega arith) (omega (arith, at .room place))
 
           counts-there : place ≡ countPlace (monitor .settings) c
-          counts-there = place-is ∙ in-place c code reached code-is reached-is
+          counts-there = place-is ∙ in-place c code bucket code-is bucket-is
 
           -- it does nothing but count
           pub one-counted :
               c .latency < getD (a .bounds) place 0 →
-              Stretched m s thresholds kinds (withCounts a (set (a .counts) place count)) monitor end (i + 1)
+              Stretched m s thresholds buckets kinds (withCounts a (set (a .counts) place count)) monitor end (i + 1)
           unfolding afterRecord playFrom boundAt boundFor
           one-counted below =
               next _ monitor (at .in-force) (at .places) (at .bound) (at .sizes) more-room (completion-accepted r c call)
@@ -173,7 +187,9 @@ module _
               stampedBy monitor place c (getD (a .stamps) n 0) (getD (a .latencies) n 0) (getD (a .units) n false)
               (getD (a .loaded) n 0) →
               l .alone ≡ true →
-              Stretched m s thresholds kinds (withCounts (stampedIn a place n l) (set (a .counts) place count)) monitor end
+              Stretched m s thresholds buckets kinds (withCounts (stampedIn a place n l) (set (a .counts) place count))
+              monitor
+              end
               (i + 1)
           unfolding afterRecord playFrom boundAt boundFor
           one-stamped n l n-is l-is alone =
@@ -193,7 +209,7 @@ module _
           (p : Passed) →
           p ≡ timedBy monitor r →
           p .alone ≡ true →
-          Stretched m s thresholds kinds a (withTime monitor p) end (i + 1)
+          Stretched m s thresholds buckets kinds a (withTime monitor p) end (i + 1)
       unfolding boundAt boundFor
       time-went-on p e alone =
           let same = e ∙ same-time monitor a r in

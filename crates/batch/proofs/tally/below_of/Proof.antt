@@ -1,7 +1,8 @@
--- `below_of`: the first three.
+-- `below_of`: the three behind the counters.
 use Prim.Native.Nat.{_≤_}
 use native.Mathlib.Omega.{arith}
-use lib.ListN.{length, length-map}
+use lib.ListN.{length, drop, length-map, length-drop}
+use lib.Seq.{getD-drop}
 use Rattle.rules.specs.Counting.{held}
 use Rattle.batch.specs.Tally.{heldAll}
 use Rattle.batch.proofs.tally.Laws.{held-at, first-three}
@@ -31,16 +32,20 @@ returns : tie.Need-returns
 returns c =
     let second = c .before in
     let t = second .before .before .args .t1 in
-    let all : 3 ≤ length t = search needs in
+    let all : 15 ≤ length t = search needs in
+    let below = drop 12 (heldAll t) in
     rw (
       c .held3 .ensures,
       second .held2 .ensures,
       second .before .held .ensures,
-      ← held-at t 0,
-      ← held-at t 1,
-      ← held-at t 2,
+      ← held-at t 12,
+      ← held-at t 13,
+      ← held-at t 14,
+      ← getD-drop 12 (heldAll t) 0 0,
+      ← getD-drop 12 (heldAll t) 1 0,
+      ← getD-drop 12 (heldAll t) 2 0,
     )
-    (first-three (heldAll t) (omega (arith, length-map t held, all)))
+    (first-three below (omega (arith, length-drop 12 (heldAll t), length-map t held, all)))
 
 pub below-of-spec : {M : Type 1} → statement M
 below-of-spec =

@@ -1,6 +1,6 @@
 -- `bounds`: the counters below n have their bound.
 use mathlib.Core.Path.{_≡_, refl, sym, _∙_}
-use Prim.Native.Nat.{ℕ, _+_, _-_, _≤_, _<_}
+use Prim.Native.Nat.{ℕ, _-_, _≤_, _<_}
 use native.Mathlib.Omega.{arith}
 use lib.ListN.{length, getD, getD-replicate}
 use lib.Seq.{getD-set-other}
@@ -16,8 +16,8 @@ Inv-loop self bounds₀ stamps latencies n₀ bounds n =
     × (latencies ≡ self .«active_window» .latencies)
     × (n ≤ 12)
     × (length bounds ≡ 28)
-    × ((place : ℕ) → place < 3 → getD bounds place 0 ≡ 4294967295)
-    × Filled (counterBound self) 3 bounds n
+    × Filled (counterBound self) bounds n
+    × ((place : ℕ) → 12 ≤ place → place < 15 → getD bounds place 0 ≡ 4294967295)
 
 abbrev μ-loop : tie.MeasureT-loop
 μ-loop self bounds₀ stamps latencies n₀ bounds n = 12 - n
@@ -34,8 +34,8 @@ loop-holds c = (
   refl,
   search needs,
   search needs,
-  λ place h. getD-replicate 28 place 4294967295 0 (omega arith),
   λ j h. absurd (omega arith),
+  λ place from h. getD-replicate 28 place 4294967295 0 (omega arith),
 )
 
 mul-bound : tie.Need-mul-bound Inv-loop μ-loop
@@ -52,9 +52,6 @@ array-read-bound-2 c = search needs
 
 bound-requires : tie.Need-bound-requires Inv-loop μ-loop
 bound-requires c κs = search needs
-
-add-bounds : tie.Need-add-bounds Inv-loop μ-loop
-add-bounds c = search needs
 
 mul-bounds : tie.Need-mul-bounds Inv-loop μ-loop
 mul-bounds c = search needs
@@ -75,8 +72,10 @@ loop-again c =
       l .inv .1,
       search needs,
       search needs,
-      λ place h. getD-set-other (l .bounds) (l .n + 3) place _ 0 (λ e. omega (arith, e)) ∙ l .inv .4 place h,
-      filled-more _ 3 (l .bounds) (l .n) _ (l .inv .5) (search needs) (rw (l .inv .0, l .inv .1) at (c .bound .ensures)),
+      filled-more _ (l .bounds) (l .n) _ (l .inv .4) (search needs) (rw (l .inv .0, l .inv .1) at (c .bound .ensures)),
+      λ place from h.
+          getD-set-other (l .bounds) (l .n) place _ 0 (λ e. omega (arith, e, c .before .loop-test .taken)) ∙
+          l .inv .5 place from h,
     )
 
 returns-2 : tie.Need-returns-2 Inv-loop μ-loop
@@ -85,8 +84,8 @@ returns-2 c =
     let all : l .n ≡ 12 = omega (arith, l .inv .2) in
     let order = c .before .before .before .before in
     all-bounds _ (l .bounds) (sym (order .before .unordered .ensures) ∙ order .if1 .left)
-    (l .inv .4)
-    (rw all at (l .inv .5))
+    (rw all at (l .inv .4))
+    (l .inv .5)
 
 pub bounds-spec : {M : Type 1} → statement M
 bounds-spec =
@@ -102,7 +101,6 @@ bounds-spec =
     mul-bound-2
     array-read-bound-2
     bound-requires
-    add-bounds
     mul-bounds
     array-write-bounds
     add-n

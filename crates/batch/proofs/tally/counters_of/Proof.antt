@@ -1,28 +1,24 @@
 -- `counters_of`: those below n are taken.
 use mathlib.Core.Path.{_≡_, sym, _∙_}
-use Prim.Native.Nat.{ℕ, _+_, _≤_, _-_}
-use native.Mathlib.Nat.{add-zero}
+use Prim.Native.Nat.{ℕ, _≤_, _-_}
 use native.Mathlib.Omega.{arith}
 use lib.ListN.{length, getD, length-map}
 use Rattle.rules.specs.Counting.{held}
 use Rattle.batch.specs.Tally.{heldAll}
-use Rattle.batch.proofs.tally.Laws.{Filled, filled-more, held-at, taken-counters}
+use Rattle.batch.proofs.tally.Laws.{Filled, filled-more, held-at, the-counters}
 use borrow.Author.Needs.{needs}
 use Rattle.batch.proofs.tally.counters_of.Statement.{statement}
 use Rattle.batch.proofs.tally.counters_of.Tie as tie
 
 abbrev Inv-loop : tie.InvT-loop
 Inv-loop counts counters₀ n₀ counters n =
-    (n ≤ 12) × (length counters ≡ 12) × Filled (λ (j : ℕ). getD (heldAll counts) (j + 3) 0) 0 counters n
+    (n ≤ 12) × (length counters ≡ 12) × Filled (λ (j : ℕ). getD (heldAll counts) j 0) counters n
 
 abbrev μ-loop : tie.MeasureT-loop
 μ-loop counts counters₀ n₀ counters n = 12 - n
 
 loop-holds : tie.Need-loop-holds Inv-loop μ-loop
 loop-holds c = (search needs, search needs, λ j h. absurd (omega arith))
-
-add-held : tie.Need-add-held Inv-loop μ-loop
-add-held c = search needs
 
 mul-held : tie.Need-mul-held Inv-loop μ-loop
 mul-held c = search needs
@@ -48,11 +44,8 @@ loop-less c = search needs
 loop-again : tie.Need-loop-again Inv-loop μ-loop
 loop-again c =
     let l = c .before .before .loop in
-    let is = c .held .ensures ∙ sym (held-at (c .before .before .before .args .t1) (l .n + 3)) in (
-      search needs,
-      search needs,
-      rw (add-zero (l .n)) at (filled-more _ 0 (l .counters) (l .n) _ (l .inv .2) (search needs) is),
-    )
+    let is = c .held .ensures ∙ sym (held-at (c .before .before .before .args .t1) (l .n)) in
+    (search needs, search needs, filled-more _ (l .counters) (l .n) _ (l .inv .2) (search needs) is)
 
 returns : tie.Need-returns Inv-loop μ-loop
 returns c =
@@ -60,7 +53,8 @@ returns c =
     let t = c .before .before .args .t1 in
     let all : l .n ≡ 12 = omega (arith, l .inv .0) in
     let size : length t ≡ 28 = search needs in
-    taken-counters (heldAll t) (l .counters) (length-map t held ∙ size) (l .inv .1) (rw all at (l .inv .2))
+    let filled = rw all at (l .inv .2) in
+    sym (the-counters (heldAll t) (l .counters) (length-map t held ∙ size) (l .inv .1) (λ j h. sym (filled j h)))
 
 pub counters-of-spec : {M : Type 1} → statement M
 counters-of-spec =
@@ -69,7 +63,6 @@ counters-of-spec =
     Inv-loop
     μ-loop
     loop-holds
-    add-held
     mul-held
     array-read-held
     held-requires

@@ -1,9 +1,9 @@
--- `joined`: those of the counters below n are there, behind those below threshold A, and none is above the top.
+-- `joined`: those of the counters below n are there, before those below threshold A, and none is above the top.
 use mathlib.Core.Path.{_≡_, refl, _∙_}
-use Prim.Native.Nat.{ℕ, _+_, _≤_, _-_}
+use Prim.Native.Nat.{ℕ, _≤_, _<_, _-_}
 use native.Mathlib.Omega.{arith}
-use lib.ListN.{length, getD, take, length-map}
-use lib.Seq.{take-all, take-set-le}
+use lib.ListN.{length, getD, take, drop, length-map}
+use lib.Seq.{take-all, drop-set-lt}
 use Rattle.rules.specs.Counting.{held}
 use Rattle.batch.specs.Tally.{heldAll, AtMost}
 use Rattle.batch.proofs.Counts.{at-most-set, three-at-most}
@@ -16,8 +16,8 @@ abbrev Inv-loop : tie.InvT-loop
 Inv-loop counters counts₀ n₀ counts n =
     (n ≤ 12)
     × (length counts ≡ 28)
-    × (take 3 (heldAll counts) ≡ take 3 (heldAll counts₀))
-    × Filled (λ (j : ℕ). getD counters j 0) 3 (heldAll counts) n
+    × (take 3 (drop 12 (heldAll counts)) ≡ take 3 (drop 12 (heldAll counts₀)))
+    × Filled (λ (j : ℕ). getD counters j 0) (heldAll counts) n
     × AtMost 4294967295 counts
 
 abbrev μ-loop : tie.MeasureT-loop
@@ -69,9 +69,6 @@ array-read-wide-4 c = search needs
 wide-requires-4 : tie.Need-wide-requires-4 Inv-loop μ-loop
 wide-requires-4 c κs = search needs
 
-add-counts : tie.Need-add-counts Inv-loop μ-loop
-add-counts c = search needs
-
 mul-counts : tie.Need-mul-counts Inv-loop μ-loop
 mul-counts c = search needs
 
@@ -88,14 +85,19 @@ loop-again : tie.Need-loop-again Inv-loop μ-loop
 loop-again c =
     let l = c .before .before .loop in
     let one = c .wide4 .ensures in
-    let room = length-map (l .counts) held in (
+    let room : l .n < length (heldAll (l .counts)) =
+    omega (arith, length-map (l .counts) held, l .inv .1, c .before .loop-test .taken)
+    in (
       search needs,
       search needs,
-      rw (held-set (l .counts) (l .n + 3) (c .wide4 .result))
-          (take-set-le 3 (heldAll (l .counts)) (l .n + 3) _ (omega arith) ∙ l .inv .2),
-      rw (held-set (l .counts) (l .n + 3) (c .wide4 .result))
-          (filled-more _ 3 (heldAll (l .counts)) (l .n) _ (l .inv .3) (omega (arith, room, l .inv .1, c .before .loop-test .taken)) (one .0)),
-      at-most-set (l .counts) (l .n + 3) _ (l .inv .4) (omega arith) (one .1),
+      rw (
+        held-set (l .counts) (l .n) (c .wide4 .result),
+        drop-set-lt 12 (heldAll (l .counts)) (l .n) (held (c .wide4 .result)) (c .before .loop-test .taken),
+      )
+          (l .inv .2),
+      rw (held-set (l .counts) (l .n) (c .wide4 .result))
+          (filled-more _ (heldAll (l .counts)) (l .n) _ (l .inv .3) room (one .0)),
+      at-most-set (l .counts) (l .n) _ (l .inv .4) (omega arith) (one .1),
     )
 
 returns : tie.Need-returns Inv-loop μ-loop
@@ -131,7 +133,6 @@ joined-spec =
     mul-wide
     array-read-wide-4
     wide-requires-4
-    add-counts
     mul-counts
     array-write-counts-4
     add-n

@@ -1,7 +1,6 @@
 -- `kind_places`: the codes below i have their place.
 use mathlib.Core.Bool.{Bool, true, false}
 use mathlib.Core.Path.{_≡_, refl, sym, _∙_}
-use native.Mathlib.Nat.{add-zero}
 use Prim.Native.Nat.{ℕ, _≤_, _<_, _-_}
 use native.Mathlib.Omega.{arith}
 use borrow.Author.Tests.{ltb-true, ltb-false}
@@ -19,7 +18,7 @@ abbrev Inv-loop : tie.InvT-loop
 Inv-loop enabled places₀ i₀ places i =
     (i ≤ 32)
     × (length places ≡ 512)
-    × Filled (λ (code : ℕ). kindPlace enabled (commandAt code)) 0 places i
+    × Filled (λ (code : ℕ). kindPlace enabled (commandAt code)) places i
     × ((code : ℕ) → i ≤ code → code < 512 → getD places code 0 ≡ 15)
 
 abbrev μ-loop : tie.MeasureT-loop
@@ -49,7 +48,7 @@ loop-again c =
     let l = c .before .before .loop in (
       search needs,
       search needs,
-      rw (add-zero (l .i)) at (filled-more _ 0 (l .places) (l .i) _ (l .inv .2) (search needs) (c .kind-place .ensures)),
+      filled-more _ (l .places) (l .i) _ (l .inv .2) (search needs) (c .kind-place .ensures),
       λ code h few. getD-set-other (l .places) (l .i) code _ 0 (λ e. omega arith) ∙ l .inv .3 code (omega arith) few,
     )
 
@@ -63,8 +62,7 @@ returns c command few = by (ltb (codeOf command) 32) refl
     by true e =
         let l = c .before .loop in
         let low = ltb-true (codeOf command) 32 e in
-        (rw (add-zero (codeOf command)) at (l .inv .2 (codeOf command) (omega (arith, low, l .inv .0)))) ∙
-        same-place _ command
+        l .inv .2 (codeOf command) (omega (arith, low, l .inv .0)) ∙ same-place _ command
     by false e =
         let l = c .before .loop in
         let high = ltb-false (codeOf command) 32 e in

@@ -1,17 +1,11 @@
 -- `stamped`: the stamp is loaded; it is not; the completion does more, or has no counter.
-use mathlib.Core.Path.{sym, _∙_}
-use native.Mathlib.Omega.{arith}
 use borrow.Author.Needs.{needs}
 use Rattle.batch.specs.Tally.{stampedBy}
-use Rattle.batch.proofs.tally.Laws.{has-counter}
 use Rattle.batch.proofs.tally.stamped.Statement.{statement}
 use Rattle.batch.proofs.tally.stamped.Tie as tie
 
 at-most-loads-requires : tie.Need-at-most-loads-requires
 at-most-loads-requires c κs = search needs
-
-sub-n : tie.Need-sub-n
-sub-n c = omega (arith, has-counter _ _ (sym (c .before .at-most-loads .ensures) ∙ c .if1 .taken) .0)
 
 milliseconds-requires : tie.Need-milliseconds-requires
 milliseconds-requires c κs = search needs
@@ -20,22 +14,16 @@ in-window-requires : tie.Need-in-window-requires
 in-window-requires c κs = search needs
 
 bit-requires : tie.Need-bit-requires
-bit-requires c κs =
-    let if = c .before .before in
-    omega (arith, has-counter _ _ (sym (if .before .at-most-loads .ensures) ∙ if .if1 .taken))
+bit-requires c κs = search needs
 
 loads-requires : tie.Need-loads-requires
 loads-requires c κs = search needs
 
 bound-requires : tie.Need-bound-requires
-bound-requires c κs =
-    let if = c .before .before .before .before .before in
-    omega (arith, has-counter _ _ (sym (if .before .at-most-loads .ensures) ∙ if .if1 .taken))
+bound-requires c κs = search needs
 
 bound-requires-2 : tie.Need-bound-requires-2
-bound-requires-2 c κs =
-    let if = c .before .before .before .before .before in
-    omega (arith, has-counter _ _ (sym (if .before .at-most-loads .ensures) ∙ if .if1 .taken))
+bound-requires-2 c κs = search needs
 
 returns : tie.Need-returns
 unfolding stampedBy
@@ -78,7 +66,6 @@ stamped-spec =
     tie.close
     (tie.spec
     at-most-loads-requires
-    sub-n
     milliseconds-requires
     in-window-requires
     bit-requires

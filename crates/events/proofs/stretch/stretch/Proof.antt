@@ -1,27 +1,32 @@
 -- `stretch`: the monitor with the active window that is kept apart is what the records so far leave.
 use mathlib.Core.Option.{some}
 use mathlib.Core.Path.{_≡_, refl, sym, _∙_}
-use Prim.Native.Nat.{_+_, _*_, _-_, _<_}
+use Prim.Native.Nat.{ℕ, _+_, _-_, _<_}
 use lib.ListN.{getD}
 use native.Mathlib.Omega.{arith}
 use Rattle.monitor.specs.Calls.{completion, playFrom}
 use Rattle.records.specs.Records.{callOf}
 use Rattle.events.specs.Files.{recordAt, callsBefore}
+use Rattle.rules.proofs.commands.Laws.{bucket-few}
 use Rattle.batch.specs.Tally.{codeOf}
 use Rattle.batch.proofs.Counts.{few-counters}
 use Rattle.records.proofs.Laws.{completion-call}
 use Rattle.events.proofs.files.Laws.{the-record, sixteen}
-use Rattle.events.proofs.stretch.Laws.{Stretched, stretch-ends, added, few-reached, one-counted, one-stamped}
+use Rattle.events.proofs.stretch.Laws.{Stretched, stretch-ends, added, begins, one-counted, one-stamped}
 use Rattle.events.proofs.stretch.Laws.{time-went-on}
 use borrow.Author.Needs.{needs}
 use Rattle.events.proofs.stretch.stretch.Statement.{statement}
 use Rattle.events.proofs.stretch.stretch.Tie as tie
 
 abbrev Inv-loop : tie.InvT-loop
-Inv-loop s thresholds kinds a₀ monitor₀ end₀ i₀ a monitor end i = Stretched monitor₀ s thresholds kinds a monitor end i
+Inv-loop s thresholds buckets kinds a₀ monitor₀ end₀ i₀ a monitor end i =
+    Stretched monitor₀ s thresholds buckets kinds a monitor end i
 
 abbrev μ-loop : tie.MeasureT-loop
-μ-loop s thresholds kinds a₀ monitor₀ end₀ i₀ a monitor end i = end - i
+μ-loop s thresholds buckets kinds a₀ monitor₀ end₀ i₀ a monitor end i = end - i
+
+bucket-places-requires : tie.Need-bucket-places-requires Inv-loop μ-loop
+bucket-places-requires c κs = search needs
 
 kind-places-requires : tie.Need-kind-places-requires Inv-loop μ-loop
 kind-places-requires c κs = search needs
@@ -36,6 +41,7 @@ loop-holds c =
       before = search needs;
       within = search needs;
       in-force = refl;
+      first-places = c .before .before .bucket-places .ensures;
       places = c .before .kind-places .ensures;
       bound = λ place h. rw (c .active .ensures .0) (c .active .ensures .1 .0 place h);
       sizes = (search needs, search needs, search needs);
@@ -74,15 +80,17 @@ command-requires c κs =
     let l = test .before .loop in
     sixteen _ (l .i) (omega (arith, test .loop-test .taken, l .inv .within))
 
-reached-requires : tie.Need-reached-requires Inv-loop μ-loop
-reached-requires c κs = search needs
+bucket-requires : tie.Need-bucket-requires Inv-loop μ-loop
+bucket-requires c κs = search needs
+
+cast-place : tie.Need-cast-place Inv-loop μ-loop
+cast-place c = search needs
 
 mul-place : tie.Need-mul-place Inv-loop μ-loop
-mul-place c =
-    omega (
-      arith,
-      few-reached (c .before .before .before .before .before .before .loop .inv) _ _ (c .reached .ensures),
-    )
+mul-place c = omega (arith, bucket-few _ _ _ (c .bucket .ensures))
+
+array-read-place : tie.Need-array-read-place Inv-loop μ-loop
+array-read-place c = omega (arith, bucket-few _ _ _ (c .bucket .ensures))
 
 code-requires : tie.Need-code-requires Inv-loop μ-loop
 code-requires c κs =
@@ -98,11 +106,11 @@ its-code :
     (c .code .result ≡ codeOf (c .before .before .command .result)) × (c .code .result < 512)
 its-code c = (rw (c .before .before .command .ensures) (c .code .ensures .0), c .code .ensures .1)
 
-array-read-place : tie.Need-array-read-place Inv-loop μ-loop
-array-read-place c = omega (arith, c .code .ensures .1)
+array-read-place-2 : tie.Need-array-read-place-2 Inv-loop μ-loop
+array-read-place-2 c = omega (arith, c .code .ensures .1)
 
-cast-place : tie.Need-cast-place Inv-loop μ-loop
-cast-place c =
+cast-place-2 : tie.Need-cast-place-2 Inv-loop μ-loop
+cast-place-2 c =
     let at = c .before .before .before .before .before .before .before .loop .inv in
     omega (arith, added at (c .before .before .command .result) _ (its-code c))
 
@@ -110,7 +118,8 @@ cast-place c =
 its-call :
     (c : tie.After-code Inv-loop μ-loop) →
     let test = c .before .before .before .before .before .before in
-    callOf (recordAt (test .before .before .before .before .before .before .args .s .now) (test .before .loop .i)) ≡
+    let start = test .before .before .before .before .before .before .before in
+    callOf (recordAt (start .args .s .now) (test .before .loop .i)) ≡
     some (completion (c .before .before .command .result))
 its-call c =
     let test = c .before .before .before .before .before .before in
@@ -122,16 +131,19 @@ its-call c =
     is)
 
 -- the place, and that the tables have it
-in-table :
-    (c : tie.After-code Inv-loop μ-loop) →
-    let l = c .before .before .before .before .before .before .before in
-    3 * c .before .reached .result + getD (l .before .before .kind-places .result) (c .code .result) 0 < 28
+abbrev its-place : tie.After-code Inv-loop μ-loop → ℕ
+its-place c =
+    let tables = c .before .before .before .before .before .before .before .before .before in
+    getD (tables .before .bucket-places .result) (c .before .bucket .result) 0 +
+    getD (tables .kind-places .result) (c .code .result) 0
+
+in-table : (c : tie.After-code Inv-loop μ-loop) → its-place c < 28
 in-table c =
     let at = c .before .before .before .before .before .before .before .loop .inv in
     omega (
       arith,
       added at (c .before .before .command .result) _ (its-code c),
-      few-reached at _ _ (c .before .reached .ensures),
+      begins at _ _ (c .before .bucket .ensures),
     )
 
 add-place : tie.Need-add-place Inv-loop μ-loop
@@ -147,12 +159,10 @@ element-copy-out-if2 c = omega (arith, in-table c)
 another :
     (c : tie.After-code Inv-loop μ-loop) →
     let l = c .before .before .before .before .before .before .before in
-    let place = 3 * c .before .reached .result + getD (l .before .before .kind-places .result) (c .code .result) 0 in
-    getD (l .loop .a .counts) place 0 + 1 < 18446744073709551616
+    getD (l .loop .a .counts) (its-place c) 0 + 1 < 18446744073709551616
 another c =
     let l = c .before .before .before .before .before .before .before in
-    let place = 3 * c .before .reached .result + getD (l .before .before .kind-places .result) (c .code .result) 0 in
-    omega (arith, l .loop .inv .room place, one-more-fits (c .before .before .before .before .before .before))
+    omega (arith, l .loop .inv .room (its-place c), one-more-fits (c .before .before .before .before .before .before))
 
 mul-a : tie.Need-mul-a Inv-loop μ-loop
 mul-a c = omega (arith, in-table (c .before .before .before))
@@ -177,7 +187,7 @@ loop-again c =
     let t = c .before .before .before .before in
     let test = t .before .before .before .before .before .before in
     let l = test .before .loop in
-    one-counted (l .inv) _ refl (test .loop-test .taken) _ (its-call t) _ _ _ _ (its-code t) (t .before .reached .ensures)
+    one-counted (l .inv) _ refl (test .loop-test .taken) _ (its-call t) _ _ _ _ (its-code t) (t .before .bucket .ensures)
     refl
     refl
     (omega (arith, c .before .if2 .taken))
@@ -187,11 +197,7 @@ counter-at-requires c κs = search needs
 
 -- the counter that is looked at
 a-counter : (c : tie.After-counter-at Inv-loop μ-loop) → c .counter-at .result < 12
-a-counter c =
-    let t = c .before .before .before .before in
-    let kinds = t .before .before .before .before .before .before .before .before .before .kind-places .result in
-    let place = 3 * t .before .reached .result + getD kinds (t .code .result) 0 in
-    omega (arith, c .counter-at .ensures, few-counters place)
+a-counter c = omega (arith, c .counter-at .ensures, few-counters (its-place (c .before .before .before .before)))
 
 mul-stamped : tie.Need-mul-stamped Inv-loop μ-loop
 mul-stamped c = omega (arith, a-counter c)
@@ -268,7 +274,7 @@ loop-again-2 c =
     let t = looked .before .before .before .before in
     let test = t .before .before .before .before .before .before in
     let l = test .before .loop in
-    one-stamped (l .inv) _ refl (test .loop-test .taken) _ (its-call t) _ _ _ _ (its-code t) (t .before .reached .ensures)
+    one-stamped (l .inv) _ refl (test .loop-test .taken) _ (its-call t) _ _ _ _ (its-code t) (t .before .bucket .ensures)
     refl
     refl
     _
@@ -326,6 +332,7 @@ stretch-spec =
     (tie.spec
     Inv-loop
     μ-loop
+    bucket-places-requires
     kind-places-requires
     active-requires
     loop-holds
@@ -336,11 +343,13 @@ stretch-spec =
     part-r-end
     is-completion-requires
     command-requires
-    reached-requires
-    mul-place
-    code-requires
-    array-read-place
+    bucket-requires
     cast-place
+    mul-place
+    array-read-place
+    code-requires
+    array-read-place-2
+    cast-place-2
     add-place
     mul-if2
     element-copy-out-if2
