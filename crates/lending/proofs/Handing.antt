@@ -1,5 +1,5 @@
--- How a lending function hands its parameters on: their locals, the locals and statements that make the rule's arguments
--- of them, and the operands of the call.
+-- How a lending function hands its parameters on: their locals, the locals and statements that make the rule's
+-- arguments of them, and the operands of the call.
 use mathlib.Core.Path.{_≡_, refl, sym, ap, _∙_}
 use Prim.Native.Nat.{ℕ, zero, suc, _+_}
 use native.Mathlib.Nat.{zero-add}
@@ -13,7 +13,7 @@ use mir.Val.{Val, vptr}
 use prog.Wp.{Heap, Calls, Loops, Env, spotOf}
 use ghost.Atoms.{Atoms}
 use contract.Lifetimes.{Shares}
-use types.Kit.{Given, Go, Item, Sq, Step, Goal, Post, step, runs, passes, ‵, _⊛_, _$_, !, move, split, split3, join}
+use types.Kit.{Given, Go, Item, Sq, Step, Goal, Post, step, runs, passes, _⊛_, _$_, !, move, split, split3, join}
 use types.Run.{Reads, Opds, look, look-raw, init, stop, hop, fld, load, addr, of-opd, and-then, no-more, assigns}
 use types.Run.{pass1, pass0}
 use types.Part.{Part, agg, whole, sub, look-in}
@@ -23,8 +23,7 @@ use denote.Builtin.{u8}
 use denote.Memory.{pointee}
 use denote.Slice.{sliceTy, sliceVal, shr-slice-lawful, mut-slice-lawful}
 use lib.ListN.{length}
-use Rattle.lending.proofs.PlainData.{Plain}
-use Rattle.lending.proofs.Locals.{cell, found, Each, env, rooms, cells, in-first, in-rest}
+use Rattle.lending.proofs.Locals.{found, Each, env, rooms, cells, in-first, in-rest}
 use Rattle.lending.proofs.Loans.{loads, opens-lent}
 use Rattle.lending.proofs.Parameters.{Parameters, none, datum, bytes, buffer, read, written, lfts, rule-lfts}
 use Rattle.lending.proofs.Parameters.{Side, next, lft, as-given, as-taken, spelt, handed, Loaded, loans, held}
@@ -67,7 +66,8 @@ made (buffer F) s a =
 made (read X PX F) s a = (PX .val (a .0 .now), made F (next s) (a .1))
 made (written X PX F) s a = (PX .val (a .0 .now), made F (next s) (a .1))
 
--- ---- the statements that make them, and the operands of the call, where the parameters' locals begin at i and those at t
+-- ---- the statements that make them, and the operands of the call, where the parameters' locals begin at i, and those
+-- at t
 abbrev pub preparing : Parameters → (i t : ℕ) → Body → Body
 preparing none i t rest = rest
 preparing (datum X PX F) i t rest = preparing F (suc i) t rest

@@ -1,5 +1,5 @@
--- A record that is lent, of any plain type: to be read, or to be written. What is had of it, and how it is loaded, opened
--- and shut.
+-- A record that is lent, of any plain type: to be read, or to be written. What is had of it, and how it is loaded,
+-- opened and shut.
 use mathlib.Core.Path.{_≡_, refl, sym}
 use Prim.Native.Nat.{ℕ, zero}
 use mathlib.Core.List.{[], _∷_, List}

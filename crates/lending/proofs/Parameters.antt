@@ -102,11 +102,17 @@ next s = record { count = s .count; to = λ κs. s .to κs .1; first = suc (s .f
 abbrev pub lft : {m : ℕ} → Side (suc m) → Lft
 lft s = s .to (s .at) .0
 
+abbrev pub slots-given : (F : Parameters) (s : Side (lfts F)) → List (Slot (s .count))
+slots-given F s = given F (s .count) (s .to) (s .first)
+
+abbrev pub slots-taken : (F : Parameters) (s : Side (rule-lfts F)) → List (Slot (s .count))
+slots-taken F s = taken F (s .count) (s .to) (s .first)
+
 abbrev pub as-given : (F : Parameters) → Side (lfts F) → List RattleType
-as-given F s = typesAt {n = s .count} (given F (s .count) (s .to) (s .first)) (s .at)
+as-given F s = typesAt {n = s .count} (slots-given F s) (s .at)
 
 abbrev pub as-taken : (F : Parameters) → Side (rule-lfts F) → List RattleType
-as-taken F s = typesAt {n = s .count} (taken F (s .count) (s .to) (s .first)) (s .at)
+as-taken F s = typesAt {n = s .count} (slots-taken F s) (s .at)
 
 -- ---- what goes to the rule, and the machine values on both sides
 abbrev pub pass : (F : Parameters) (s : Side (lfts F)) (z : Side (rule-lfts F))
@@ -182,11 +188,11 @@ nothing-stored (read X PX F) only = nothing-stored F only
 nothing-stored (written X PX F) only = absurd only
 
 abbrev pub Left : (F : Parameters) (s : Side (lfts F)) (z : Side (rule-lfts F)) → Denots (as-given F s) → Type 0
-Left F s z a = Fins (z .at) (taken F (z .count) (z .to) (z .first)) (all yes (taken F (z .count) (z .to) (z .first))) (pass F s z a)
+Left F s z a = Fins (z .at) (slots-taken F z) (all yes (slots-taken F z)) (pass F s z a)
 
 abbrev pub lasting : (F : Parameters) (s : Side (lfts F)) (z : Side (rule-lfts F)) (a : Denots (as-given F s))
     → Left F s z a → Stored F
-    → Fins (s .at) (given F (s .count) (s .to) (s .first)) (all yes (given F (s .count) (s .to) (s .first))) a
+    → Fins (s .at) (slots-given F s) (all yes (slots-given F s)) a
 lasting none s z a ws fs = tt
 lasting (datum X PX F) s z a ws fs = (ws .0, lasting F s z (a .1) (ws .1) fs)
 lasting (bytes F) s z a ws fs = (tt, lasting F (next s) (next z) (a .1) (ws .1) fs)
@@ -365,12 +371,12 @@ module _ {M : Type 1} (𝓤 : URA M) (H : Heap 𝓤) (A : Atoms 𝓤) (W : Given
   abbrev pub rule-lasts : (F : Parameters) (s : Side (lfts F)) (z : Side (rule-lfts F)) (a : Denots (as-given F s))
       → Left F s z a → Fml
   rule-lasts F s z a ws =
-      lastsOf (z .at) (taken F (z .count) (z .to) (z .first)) (all yes (taken F (z .count) (z .to) (z .first))) (pass F s z a) ws
+      lastsOf (z .at) (slots-taken F z) (all yes (slots-taken F z)) (pass F s z a) ws
 
   abbrev pub lasts : (F : Parameters) (s : Side (lfts F)) (z : Side (rule-lfts F)) (a : Denots (as-given F s))
       → Left F s z a → Stored F → Fml
   lasts F s z a ws fs =
-      lastsOf (s .at) (given F (s .count) (s .to) (s .first)) (all yes (given F (s .count) (s .to) (s .first))) a (lasting F s z a ws fs)
+      lastsOf (s .at) (slots-given F s) (all yes (slots-given F s)) a (lasting F s z a ws fs)
 
   -- a slice comes back from the rule, with its token
   behind : (P Q Q′ : Fml) (T T′ : SProp 𝓤) (I : Item 𝓤) (κ : Lft) (q : Share)
@@ -392,8 +398,8 @@ module _ {M : Type 1} (𝓤 : URA M) (H : Heap 𝓤) (A : Atoms 𝓤) (W : Given
       let ours = raw (tokens F s qs) ⊛ ‵ (lasts F s z (a .1) (ws .1) fs) in
       qed W (back 𝓤 F s qs (a .1) fs ∷ raw (rule-tokens F s qs)
       ∷ ‵ (fsep (left (X .exit yes) (a .0) (ws .0)) (rule-lasts F s z (a .1) (ws .1))) ∷ []) ∵
-      move ! (2 ∷ []) $ fsplit ! $ move ! (2 ∷ 3 ∷ 1 ∷ []) $ use3 W ours (leaves F s z e qs (a .1) (ws .1) fs) $ split ! $
-      move ! (2 ∷ 1 ∷ []) $ fjoin ! $ move ! (1 ∷ 0 ∷ []) $ done !
+      move ! (2 ∷ []) $ fsplit ! $ move ! (2 ∷ 3 ∷ 1 ∷ []) $ use3 W ours (leaves F s z e qs (a .1) (ws .1) fs) $
+      split ! $ move ! (2 ∷ 1 ∷ []) $ fjoin ! $ move ! (1 ∷ 0 ∷ []) $ done !
   leaves (bytes F) s z e qs a ws fs =
       behind ftrue (rule-lasts F (next s) (next z) (a .1) (ws .1)) (lasts F (next s) (next z) (a .1) (ws .1) fs)
       (rule-tokens F (next s) (qs .1)) (tokens F (next s) (qs .1)) (back 𝓤 F (next s) (qs .1) (a .1) fs)

@@ -21,7 +21,9 @@ pub latency-monitor-configure-spec : {M : Type 1} → statement M
 unfolding code.routine
 latency-monitor-configure-spec 𝓤 H 𝓜 𝓖 𝓡 =
     writes outcome refusal (λ a. asRefusal (saysAnswer a)) #rule #numbers once (bytes none) tt
-    (λ _ x r _. (r .next ≡ afterSettings (x .0) (x .1 .0 .now)) and fact-of (saysAnswer (r .answer) ≡ settingsAnswer (x .1 .0 .now)))
+    (λ _ x r _.
+    (r .next ≡ afterSettings (x .0) (x .1 .0 .now))
+    and fact-of (saysAnswer (r .answer) ≡ settingsAnswer (x .1 .0 .now)))
     𝓤 H 𝓜 𝓖 𝓡 code.env #self (code.unfolded 𝓤 H 𝓜 𝓡)
     code.calls-monitor·record·Monitor·configure (rule.met 𝓤 H 𝓜 𝓖 𝓡)
     code.calls-latency-monitor·answers·refusal (numbers.met 𝓤 H 𝓜 𝓖 𝓡)

@@ -22,8 +22,10 @@ use Rattle.latency_monitor.proofs.latency_monitor_elapsed.Code as code
 pub latency-monitor-elapsed-spec : {M : Type 1} → statement M
 unfolding code.routine
 latency-monitor-elapsed-spec 𝓤 H 𝓜 𝓖 𝓡 =
-    writes elapsed-outcome plain-elapsed-answer (λ a. asElapsed (saysElapsed a)) #rule #numbers elapsed-cases (datum _ (plain-uint w32) none) tt
-    (λ _ x r _. (r .next ≡ afterElapsed (x .0) (x .1 .0)) and fact-of (saysElapsed (r .answer) ≡ elapsedAnswer (x .0) (x .1 .0)))
+    writes elapsed-outcome plain-elapsed-answer (λ a. asElapsed (saysElapsed a)) #rule #numbers
+    elapsed-cases (datum _ (plain-uint w32) none) tt
+    (λ _ x r _.
+    (r .next ≡ afterElapsed (x .0) (x .1 .0)) and fact-of (saysElapsed (r .answer) ≡ elapsedAnswer (x .0) (x .1 .0)))
     𝓤 H 𝓜 𝓖 𝓡 code.env #self (code.unfolded 𝓤 H 𝓜 𝓡)
     code.calls-monitor·record·Monitor·elapsed (rule.met 𝓤 H 𝓜 𝓖 𝓡)
     code.calls-latency-monitor·answers·elapsed (numbers.met 𝓤 H 𝓜 𝓖 𝓡)

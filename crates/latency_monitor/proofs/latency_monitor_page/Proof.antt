@@ -18,7 +18,9 @@ pub latency-monitor-page-spec : {M : Type 1} → statement M
 unfolding code.routine
 latency-monitor-page-spec 𝓤 H 𝓜 𝓖 𝓡 =
     reads refusal (read _ the-record (buffer none)) tt #rule
-    (λ _ x r e. (e .1 .0 .now ≡ afterPage (x .0) (x .1 .0 .now)) and fact-of (r ≡ asRefusal (pageAnswer (length (x .1 .0 .now)))))
+    (λ _ x r e.
+    (e .1 .0 .now ≡ afterPage (x .0) (x .1 .0 .now))
+    and fact-of (r ≡ asRefusal (pageAnswer (length (x .1 .0 .now)))))
     𝓤 H 𝓜 𝓖 𝓡 code.env #self (code.unfolded 𝓤 H 𝓜 𝓡)
     code.calls-latency-monitor·answers·page (rule.met 𝓤 H 𝓜 𝓖 𝓡)
     (f.clauses 𝓤 H (𝓖 .A) (𝓜 .mem) (𝓡 .run)) (λ κs x g r ws met. hold 𝓤 (_ and fact-of _) met)

@@ -21,7 +21,8 @@ pub latency-monitor-read-page-spec : {M : Type 1} → statement M
 unfolding code.routine
 latency-monitor-read-page-spec 𝓤 H 𝓜 𝓖 𝓡 =
     writes read-outcome refusal (λ a. asRefusal (saysAnswer a)) #rule #numbers once (bytes none) tt
-    (λ _ x r _. (r .next ≡ readInto (x .0) (x .1 .0 .now)) and fact-of (saysAnswer (r .answer) ≡ readAnswer (x .1 .0 .now)))
+    (λ _ x r _.
+    (r .next ≡ readInto (x .0) (x .1 .0 .now)) and fact-of (saysAnswer (r .answer) ≡ readAnswer (x .1 .0 .now)))
     𝓤 H 𝓜 𝓖 𝓡 code.env #self (code.unfolded 𝓤 H 𝓜 𝓡)
     code.calls-latency-monitor·reading·read-into (rule.met 𝓤 H 𝓜 𝓖 𝓡)
     code.calls-latency-monitor·answers·refusal (numbers.met 𝓤 H 𝓜 𝓖 𝓡)
