@@ -7,17 +7,18 @@ use Prim.Native.Nat.{ℕ, zero, suc, _+_, _-_, _*_, _%_, _<_, _≤_}
 use native.Mathlib.Omega.{arith}
 use borrow.Author.Tests.{lt-ltb, le-ltb, ltb-true, ltb-false}
 use lib.Dec.{ltb}
-use lib.ListN.{length, take, length-append, length-take}
+use lib.ListN.{length, take, drop, length-append, length-take, take-append-drop}
 use lib.Seq.{take-all, take-append-le, take-append-add}
 use Rattle.monitor.specs.declared.record.Monitor.{Monitor}
 use Rattle.monitor.specs.Calls.{found, andThen, orElse, playFrom}
+use Rattle.monitor.specs.Record.{newMonitor}
 use Rattle.events.specs.declared.explain.Question.{Question}
 use Rattle.events.specs.Claims.{InParts, joined, OfWholeRecords, ExplainedInParts, RefusedSkipped}
 use Rattle.events.specs.Explain.{Said, bytesBefore, saidAt, atEnd, numberSaid, inputSaid, questionOf}
 use Rattle.events.specs.Explain.{afterPart, partSaid, partsSaid}
 use Rattle.records.specs.Records.{callOf, recordRefusal, acceptedCall, afterRecord}
 use Rattle.events.specs.Files.{recordAt, wholeRecords, callsBefore, acceptedBefore, historyOf}
-use Rattle.events.proofs.Parts.{in-parts, same-record, later-record}
+use Rattle.events.proofs.Parts.{in-parts, same-record, same-calls, later-record}
 use Rattle.events.proofs.files.Laws.{untouched, then-one, then-same}
 
 module _ (m : Monitor) (s t : List ℕ) (whole : 16 * wholeRecords s ≡ length s) where
@@ -131,10 +132,10 @@ skip : (m : Monitor) (r : List ℕ) (k : ℕ) → recordRefusal r ≡ some k →
 unfolding afterRecord
 skip m r k e = untouched m r k e
 
-pub refused-skipped : RefusedSkipped
-unfolding RefusedSkipped callsBefore acceptedBefore playFrom
-refused-skipped m s zero = refl
-refused-skipped m s (suc n) = by (recordRefusal (recordAt s n)) refl (refused-skipped m s n)
+accepted-alone : (m : Monitor) (s : List ℕ) (n : ℕ) → playFrom m (callsBefore s n) ≡ playFrom m (acceptedBefore s n)
+unfolding callsBefore acceptedBefore playFrom
+accepted-alone m s zero = refl
+accepted-alone m s (suc n) = by (recordRefusal (recordAt s n)) refl (accepted-alone m s n)
   where
     by :
         (o : Option ℕ) →
@@ -147,3 +148,15 @@ refused-skipped m s (suc n) = by (recordRefusal (recordAt s n)) refl (refused-sk
         rw e
         (sym (then-one m (callsBefore s n) (callOf (recordAt s n))) ∙
         (skip (playFrom m (callsBefore s n)) (recordAt s n) k e ∙ same))
+
+-- the bytes of the records before record n have their calls
+history-before : (s : List ℕ) (n : ℕ) → n ≤ wholeRecords s → historyOf (bytesBefore s n) ≡ callsBefore s n
+unfolding historyOf
+history-before s n h =
+    let all : wholeRecords (bytesBefore s n) ≡ n = omega (arith, length-take (16 * n) s) in
+    let calls = same-calls (bytesBefore s n) (drop (16 * n) s) n (omega arith) in
+    rw all (sym (rw (take-append-drop (16 * n) s) at calls))
+
+pub refused-skipped : RefusedSkipped
+unfolding RefusedSkipped
+refused-skipped s n h = rw (history-before s n h) (accepted-alone newMonitor s n)

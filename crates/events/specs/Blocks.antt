@@ -1,11 +1,13 @@
--- 01, The page program: what is printed before the page, the lines of refused records and of what is left over.
+-- 01, The page program: what is printed, the lines of refused records and of what is left over, and the page.
 use mathlib.Core.List.{List, [], _∷_, _++_}
 use mathlib.Core.Path.{_≡_}
 use Prim.Native.Nat.{ℕ, zero, suc, _+_, _*_, _/_, _%_, _^_}
 use lib.ListN.{length, take}
 use Rattle.monitor.specs.declared.record.Monitor.{Monitor}
-use Rattle.monitor.specs.Calls.{found, playFrom}
+use Rattle.monitor.specs.Calls.{found, playFrom, play}
+use Rattle.monitor.specs.Report.{pageOf}
 use Rattle.text.specs.Lines.{refusedLine}
+use Rattle.text.specs.Pages.{textOf}
 use Rattle.text.specs.Stored.{Stored}
 use Rattle.events.specs.declared.blocks.Block.{Block}
 use Rattle.records.specs.Records.{recordRefusal}
@@ -38,3 +40,17 @@ withRoom s output = take (16 * (length output / 50)) s
 -- the line of what is left over behind so many records, in a last block of n bytes
 unfoldable pub endLine : (records n : ℕ) → List ℕ
 endLine records n = found [] (λ refusal. refusedLine (records ∷ refusal ∷ [])) (endRefusal n)
+
+-- 01, The page program: all that is printed for an input: the lines of refused records, that of what is left over, and
+-- the page
+unfoldable pub printed : List ℕ → List ℕ
+printed input =
+    refusedLines 0 input ++ (endLine (wholeRecords input) (length input) ++ textOf (pageOf (play (historyOf input))))
+
+-- what is printed of an input that is read in parts, from a monitor and the next record's number on: the lines of each
+-- part, which leaves a monitor and a number to the next, and then the page
+unfoldable pub partsPrinted : Monitor → (next : ℕ) → List (List ℕ) → List ℕ
+partsPrinted m next [] = textOf (pageOf m)
+partsPrinted m next (s ∷ parts) =
+    refusedLines next s ++ (endLine (next + wholeRecords s) (length s) ++
+    partsPrinted (playFrom m (historyOf s)) (next + wholeRecords s) parts)

@@ -4,16 +4,17 @@ use mathlib.Core.Path.{_≡_}
 use mathlib.Core.Bool.{false}
 use mathlib.Core.List.{List, [], _∷_, _++_}
 use mathlib.Core.Option.{some}
-use Prim.Native.Nat.{ℕ, _+_, _%_, _<_}
+use Prim.Native.Nat.{ℕ, _+_, _%_, _≤_, _<_}
 use lib.ListN.{length, getD, take, drop}
 use Rattle.endian.specs.Bytes.{anySet}
 use Rattle.endian.specs.Loads.{number}
 use Rattle.monitor.specs.declared.record.Monitor.{Monitor}
-use Rattle.monitor.specs.Calls.{WithoutAttribute, completion, playFrom, found}
-use Rattle.events.specs.Blocks.{refusedLines}
-use Rattle.events.specs.Explain.{numberSaid, inputSaid, questionOf, partsSaid}
+use Rattle.monitor.specs.Calls.{WithoutAttribute, completion, playFrom, play, found}
+use Rattle.monitor.specs.Record.{newMonitor}
+use Rattle.events.specs.Blocks.{refusedLines, printed, partsPrinted}
+use Rattle.events.specs.Explain.{bytesBefore, numberSaid, inputSaid, questionOf, partsSaid}
 use Rattle.records.specs.Records.{recordKind, part, unnamed, attribute, callOf}
-use Rattle.events.specs.Files.{recordAt, wholeRecords, callsBefore, acceptedBefore, historyOf}
+use Rattle.events.specs.Files.{recordAt, wholeRecords, acceptedBefore, historyOf}
 
 -- what follows is played on the monitor that the first part leaves
 unfoldable pub InParts : Type 0
@@ -28,6 +29,22 @@ LinesInParts =
     (first : ℕ) (s t : List ℕ) →
     length s % 16 ≡ 0 →
     refusedLines first s ++ refusedLines (first + wholeRecords s) t ≡ refusedLines first (s ++ t)
+
+-- parts of an input, one behind the other; and that all but the last are of whole records
+abbrev pub joined : List (List ℕ) → List ℕ
+joined [] = []
+joined (s ∷ parts) = s ++ joined parts
+
+abbrev pub OfWholeRecords : List (List ℕ) → Type 0
+OfWholeRecords [] = Unit {0}
+OfWholeRecords (s ∷ []) = Unit {0}
+OfWholeRecords (s ∷ t ∷ parts) = (length s % 16 ≡ 0) × OfWholeRecords (t ∷ parts)
+
+-- 01, The page program: however an input is cut into parts, all but the last of whole records, what is printed part by
+-- part is what is printed for the input
+unfoldable pub PrintedInParts : Type 0
+PrintedInParts =
+    (parts : List (List ℕ)) → OfWholeRecords parts → partsPrinted newMonitor 0 parts ≡ printed (joined parts)
 
 -- 02, Ticket 4: what earlier releases accepted as a completion, byte 2 being one of its unnamed bytes, is accepted as
 -- what it was, without the attribute
@@ -50,15 +67,6 @@ EarlierFiles =
 -- 02, Ticket 5: an input may be read in parts, the number's bytes and then any parts of the file, all but the last of
 -- whole records. What is said of the number, and else by the first part that says anything, is what is said of the
 -- input, whatever follows
-abbrev pub joined : List (List ℕ) → List ℕ
-joined [] = []
-joined (s ∷ parts) = s ++ joined parts
-
-abbrev pub OfWholeRecords : List (List ℕ) → Type 0
-OfWholeRecords [] = Unit {0}
-OfWholeRecords (s ∷ []) = Unit {0}
-OfWholeRecords (s ∷ t ∷ parts) = (length s % 16 ≡ 0) × OfWholeRecords (t ∷ parts)
-
 unfoldable pub ExplainedInParts : Type 0
 ExplainedInParts =
     (input : List ℕ) (parts : List (List ℕ)) →
@@ -67,9 +75,10 @@ ExplainedInParts =
     found (partsSaid (questionOf (take 4 input)) parts) (λ said. said) (numberSaid (length (take 4 input))) ≡
     inputSaid input
 
--- 02, Ticket 5: the monitor that is asked is the one that the accepted records alone make: those that are refused are
--- skipped
+-- 02, Ticket 5: the monitor that `saidAt` asks, which the bytes of the records before make of a new one, is the one that
+-- the accepted calls among them make: those that are refused are skipped
 unfoldable pub RefusedSkipped : Type 0
 RefusedSkipped =
-    (m : Monitor) (s : List ℕ) (n : ℕ) →
-    playFrom m (callsBefore s n) ≡ playFrom m (acceptedBefore s n)
+    (s : List ℕ) (n : ℕ) →
+    n ≤ wholeRecords s →
+    play (historyOf (bytesBefore s n)) ≡ play (acceptedBefore s n)
