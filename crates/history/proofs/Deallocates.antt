@@ -9,7 +9,7 @@ use borrow.Author.Tests.{ne-eqb}
 use Rattle.rules.specs.declared.commands.Command.{Command}
 use Rattle.monitor.specs.declared.windows.WindowChoice.{WindowChoice}
 use Rattle.rules.specs.Commands.{kindOf}
-use Rattle.history.specs.Claims.{NoDeallocateCounted}
+use Rattle.history.specs.Claims.{NeverDeallocate, NoDeallocateCounted}
 use Rattle.history.specs.Facts.{inForce, enablingIn, Completed, completedIf, completedAt, sinceEnabled}
 use Rattle.history.specs.Facts.{isIn, kindIn, ofKind}
 use Rattle.monitor.specs.Calls.{Call, settings, completion, elapsed, clock, powerUp, page, settingsBack, belowA}
@@ -19,6 +19,9 @@ use Rattle.rules.proofs.commands.Laws.{kind-without}
 use Rattle.history.proofs.BelowA.{all-zero}
 use Rattle.history.proofs.Bounds.{since-each}
 use Rattle.history.proofs.Lists.{All, Some, all-map, those-none}
+
+pub never-deallocate : NeverDeallocate
+never-deallocate c without e = omega (arith, kind-without c 2 without e)
 
 abbrev Without : Effect → Type 0
 Without e = found false (λ (c : Command). c .deallocate) (completionIn e) ≡ false

@@ -1,6 +1,6 @@
--- The page after a history is read as the facts behind it: these keep every rule of the page's layout.
+-- The page after a history is read as the facts behind it, which keep every rule of the page's layout.
 use Prim.Native.Nat.{ℕ, _≤_, _<_, _^_}
-use mathlib.Core.Path.{_≡_, refl}
+use mathlib.Core.Path.{_≡_, refl, sym, ap, _∙_}
 use mathlib.Core.Bool.{Bool, true, false, cond, _||_}
 use mathlib.Core.List.{List, [], _∷_}
 use mathlib.Core.Option.{Option, none, some}
@@ -11,23 +11,24 @@ use borrow.Author.Tests.{ltb-false, lt-ltb, ne-eqb}
 use Rattle.window.specs.BlockReader.{ofTwelve, counterFits, windowFits}
 use Rattle.logpage.specs.Fields.{noSettings, noDebugLog}
 use Rattle.window.specs.Fields.{unset}
-use Rattle.logpage.specs.Reader.{debugFits, fieldsFit}
+use Rattle.logpage.specs.Reader.{debugFits, fieldsFit, shown}
 use Rattle.logpage.specs.declared.fields.Settings.{Settings}
+use Rattle.logpage.specs.declared.reader.Reading.{Reading}
 use Rattle.window.proofs.Lists.{all-pass}
 use Rattle.logpage.proofs.OneBit.{ones-power}
 use Rattle.logpage.proofs.Written.{read-as-written}
-use Rattle.history.specs.Claims.{PageReadBack}
+use Rattle.history.specs.Claims.{PageReadBack, SettingsReadBack}
 use Rattle.history.specs.Facts.{inForce, Counted, countOf, orLoad, loadsAfter, lastLoad, stampOf, latencyOf}
 use Rattle.history.specs.Facts.{unitsOf, windowFrom, active, static, filter, triggered, discardIn, countedAt}
 use Rattle.history.specs.Facts.{earliest, logOf, debugAt, factsOf}
 use Rattle.monitor.specs.Calls.{found}
 use Rattle.history.specs.Effects.{Past, settingsIn, latest, since, pastOf}
 use Rattle.rules.specs.Refusals.{eitherAbove}
-use Rattle.rules.specs.Settings.{decoded}
+use Rattle.rules.specs.Settings.{decoded, encoded}
 use Rattle.history.proofs.Bounds.{Sound, SoundPast, sound-past, latest-some, OfTwelve, few, first-some}
 use Rattle.history.proofs.Bounds.{since-all, facts-fit}
 use Rattle.history.proofs.Facts.{clock-top}
-use Rattle.history.proofs.Given.{page-shows-facts}
+use Rattle.history.proofs.Given.{page-shows-facts, settings-show-facts, settings-come-back}
 use Rattle.history.proofs.Lists.{Some, all-those, entry}
 
 -- masks of the settings in force
@@ -119,3 +120,9 @@ pub page-read-back : PageReadBack
 page-read-back h b =
     rw (page-shows-facts h)
     (read-as-written (factsOf (pastOf h)) (facts-fit h b) (facts-keep (pastOf h) (sound-past h b)))
+
+pub settings-read-back : SettingsReadBack
+unfolding shown factsOf
+settings-read-back h b =
+    ap (λ (r : Reading). encoded (r .page .settings)) (page-read-back h b .1) ∙
+    (sym (settings-show-facts h) ∙ settings-come-back h b)

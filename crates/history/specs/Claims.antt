@@ -2,7 +2,8 @@
 use mathlib.Core.Path.{_≡_}
 use mathlib.Core.List.{List, _∷_}
 use mathlib.Core.Logic.{_↔_}
-use mathlib.Core.Option.{Option, none}
+use mathlib.Core.Bool.{false}
+use mathlib.Core.Option.{Option, none, some}
 use Prim.Native.Nat.{ℕ, _+_, _*_, _%_, _<_}
 use lib.Dec.{ltb}
 use lib.ListN.{length, getD, set, replicate}
@@ -14,6 +15,8 @@ use Rattle.history.specs.Facts.{Counted, active, static, countOf, lastLo
 use Rattle.history.specs.Facts.{windowFrom, debugAt, factsOf, sum, ofKind, belowACounts}
 use Rattle.monitor.specs.Calls.{elapsed, History, All, found, WithoutAttribute, play}
 use Rattle.history.specs.Effects.{Past, OfBytes, settingsIn, latest, pastOf}
+use Rattle.rules.specs.declared.commands.Command.{Command}
+use Rattle.rules.specs.Commands.{kindOf}
 use Rattle.rules.specs.Counting.{countTop}
 use Rattle.rules.specs.Answers.{ended, unlessRefused}
 use Rattle.monitor.specs.Record.{untouchedIf, elapsedAnswer}
@@ -79,6 +82,12 @@ lastAccepted h = found (replicate 4096 0) (λ s. set s 11 0) (latest settingsIn 
 abbrev pub SettingsComeBack : Type 0
 SettingsComeBack = (h : History) → OfBytes h → settingsOf (play h) ≡ lastAccepted h
 
+-- 02, Ticket 1: settings in force, discard, which the page lacks, as 0: those that are read from the page after any
+-- history are, as settings bytes, those last accepted
+abbrev pub SettingsReadBack : Type 0
+SettingsReadBack =
+    (h : History) → OfBytes h → encoded (readingOf (pageOf (play h)) .page .settings) ≡ lastAccepted h
+
 -- two lists of counted completions give a counter the same count, stamp, measured latency and stamp units
 pub record SameCounter (xs ys : List Counted) : Type 0 where
   pub count : countOf xs ≡ countOf ys
@@ -132,6 +141,11 @@ FiveCountsAddUp =
     All (λ count. count < countTop) (fiveCounts w (play h) k) →
     sum (fiveCounts w (play h) k) ≡ length (ofKind w (pastOf h) k)
 
--- 02, Ticket 4: where no completion has the deallocate attribute or bit, nothing is counted as Deallocate, kind 2, in either window
+-- 02, Ticket 4: whatever its opcode, a completion without the deallocate attribute or bit is never Deallocate, kind 2
+abbrev pub NeverDeallocate : Type 0
+NeverDeallocate = (c : Command) → c .deallocate ≡ false → kindOf c ≡ some 2 → ⊥
+
+-- 02, Ticket 4: where no completion has the deallocate attribute or bit, nothing is counted as Deallocate in either
+-- window
 abbrev pub NoDeallocateCounted : Type 0
 NoDeallocateCounted = (h : History) (w : WindowChoice) → WithoutAttribute h → fiveCounts w (play h) 2 ≡ replicate 5 0
