@@ -1,19 +1,24 @@
 // explain < INPUT: prints why a completion of an event file does not load a latency stamp (document 02, Ticket 5). The
 // input is the record's number, and after it the file. It reads, calls and writes; what it prints is made by `events`.
-ghost use mathlib.Core.Bool.{true};
-ghost use mathlib.Core.Option.{none};
+ghost use mathlib.Core.Bool.{true, false};
 ghost use mathlib.Core.Path.{_≡_};
-ghost use lib.ListN.{length};
-ghost use Rattle.events.specs.Explain.{afterPart, partSaid};
+ghost use lib.ListN.{length, take};
+ghost use Rattle.monitor.specs.Calls.{found};
+ghost use Rattle.streams.specs.Blocks.{goesOn};
+ghost use Rattle.events.specs.Explain.{afterPart, partSaid, saysExplained};
 use events::Explained;
 use events::Question;
 use libc::STDERR_FILENO;
 use libc::STDIN_FILENO;
 use libc::STDOUT_FILENO;
 
-// What a block of the file left of the question, and whether the next one is to be read.
+// What a block of the file left of the question, and said; its bytes, whether a read failed, and whether the next one is
+// to be read.
 struct Turn {
     question: Question,
+    said: Explained,
+    n: usize,
+    failed: bool,
     more: bool,
 }
 
@@ -34,46 +39,33 @@ fn print(e: Explained) {
     }
 }
 
-// One block of the file. Where there is to be more, the whole block was read and says nothing.
+// One block of the file. The next one is to be read exactly where this one was read whole and says nothing.
 fn advance(q: Question, block: &mut [u8]) -> Turn
     requires { ⌜ length (now block) ≡ 65536 ⌝ }
-    ensures next { λ r. ⌜ (r .more ≡ true → r .question ≡ afterPart q (now (block .exit))) ⌝ }
-    ensures said { λ r. ⌜ (r .more ≡ true → partSaid q (now (block .exit)) ≡ none) ⌝ }
+    ensures next { λ r. ⌜ r .question ≡ afterPart q (take (r .n) (now (block .exit))) ⌝ }
+    ensures said { λ r. ⌜ saysExplained (r .said) ≡ partSaid q (take (r .n) (now (block .exit))) ⌝ }
+    ensures more { λ r. ⌜ r .more ≡ goesOn (r .n) (found true (λ said. false) (saysExplained (r .said))) ⌝ }
 {
     let filled = streams::fill(STDIN_FILENO, block);
     let n = filled.n;
-    if filled.failed {
-        os::fail(b"explain: cannot read");
-        return Turn {
-            question: q,
-            more: false,
-        };
-    }
+    let failed = filled.failed;
     let e = q.read(&block[..n]);
     let question = e.next;
     let said = e.said;
-    if n < 65536 {
-        print(said);
-        Turn {
-            question,
-            more: false,
-        }
-    } else if events::unread(said) {
-        Turn {
-            question,
-            more: true,
-        }
-    } else {
-        print(said);
-        Turn {
-            question,
-            more: false,
-        }
+    let more = streams::goes_on(n, events::unread(said));
+    Turn {
+        question,
+        said,
+        n,
+        failed,
+        more,
     }
 }
 
 // Block after block, until something is said or the file ends.
-fn search(q: Question) {
+fn search(q: Question) -> Turn
+    ensures { λ r. ⌜ r .more ≡ false ⌝ }
+{
     let mut block = io::large_buffer();
     let mut question = q;
     loop {
@@ -81,8 +73,19 @@ fn search(q: Question) {
         if turn.more {
             question = turn.question;
         } else {
-            return;
+            return turn;
         }
+    }
+}
+
+// Prints what the file says of a question.
+fn answer(q: Question) {
+    let last = search(q);
+    if last.failed {
+        os::fail(b"explain: cannot read");
+    } else {
+        let said = last.said;
+        print(said);
     }
 }
 
@@ -97,7 +100,7 @@ fn run() {
         let e = Question::new(&number[..n]);
         let said = e.said;
         if events::unread(said) {
-            search(e.next);
+            answer(e.next);
         } else {
             print(said);
         }
@@ -105,7 +108,7 @@ fn run() {
 }
 
 fn main() {
-    if os::arg_count() <= 1 {
+    if streams::alone(os::arg_count()) {
         run();
     } else {
         io::write_all(STDERR_FILENO, b"usage: explain < INPUT\n");

@@ -40,7 +40,7 @@ fn run() {
 }
 
 fn main() {
-    if os::arg_count() <= 1 {
+    if streams::alone(os::arg_count()) {
         run();
     } else {
         io::write_all(STDERR_FILENO, b"usage: listing < PAGE\n");

@@ -1,4 +1,8 @@
 // The input: a file that is named, or standard input.
+ghost use mathlib.Core.Path.{_≡_};
+ghost use Prim.Native.Nat.{_≤_, _<_};
+ghost use lib.IntN.{pos, negsuc};
+ghost use lib.Signed.{leZ};
 use libc::STDERR_FILENO;
 use libc::STDIN_FILENO;
 
@@ -18,9 +22,12 @@ fn open_named() -> i32 {
     fd
 }
 
-// A descriptor to read from; negative where there is none, and standard error says why.
-pub fn open() -> i32 {
-    let words = os::arg_count();
+// A descriptor to read from, by how many words the program was started with, its name among them: without an argument
+// standard input. Where there is none it is negative, and standard error says why.
+fn open_by(words: usize) -> i32
+    ensures standard { λ r. ⌜ (words ≤ 1 → r ≡ pos 0) ⌝ }
+    ensures none { λ r. ⌜ (2 < words → r ≡ negsuc 0) ⌝ }
+{
     if words <= 1 {
         STDIN_FILENO
     } else if words == 2 {
@@ -29,4 +36,16 @@ pub fn open() -> i32 {
         usage();
         -1
     }
+}
+
+// The same, by the words of this run.
+pub fn open() -> i32 {
+    open_by(os::arg_count())
+}
+
+// Whether there is a descriptor.
+pub fn is_open(fd: i32) -> bool
+    ensures { λ r. ⌜ r ≡ leZ (pos 0) fd ⌝ }
+{
+    0 <= fd
 }

@@ -1,13 +1,12 @@
 // What has been read so far, and what is printed of it.
 ghost use mathlib.Core.Path.{_≡_};
-ghost use mathlib.Core.List.{[]};
-ghost use Prim.Native.Nat.{_+_, _/_, _≤_, _<_, _^_};
+ghost use Prim.Native.Nat.{_≤_, _<_, _^_};
 ghost use lib.ListN.{length};
 ghost use Rattle.text.specs.Lines.{asLine};
 ghost use Rattle.text.specs.Pages.{asText, textOf};
 ghost use Rattle.monitor.specs.Report.{pageOf};
 ghost use Rattle.events.specs.Blocks.{endLine};
-ghost use Rattle.page.specs.Progress.{SoFar, Reads, Told};
+ghost use Rattle.page.specs.Progress.{nothingRead, afterBlock, Told};
 use monitor::Monitor;
 use text::Line;
 use text::Text;
@@ -27,7 +26,7 @@ pub struct Taken {
 impl Progress {
     // Nothing has been read.
     pub fn start() -> Self
-        ensures { λ p. ⌜ SoFar [] p ⌝ }
+        ensures { λ p. ⌜ p ≡ nothingRead ⌝ }
     {
         let monitor = Monitor::new();
         Progress { monitor, next: 0 }
@@ -36,8 +35,7 @@ impl Progress {
     // The next block, with its refused lines.
     pub(crate) fn take(self, s: &[u8], out: &mut [u8]) -> Taken
         requires { ⌜ (length (now s) ≤ 65536) × (length (now out) ≡ 204800) × (self .next < 2 ^ 60) ⌝ }
-        ensures read { λ r. ⌜ Reads self (now (s .entry)) (r .progress) ⌝ }
-        ensures next { λ r. ⌜ r .progress .next ≡ self .next + length (now (s .entry)) / 16 ⌝ }
+        ensures progress { λ r. ⌜ r .progress ≡ afterBlock self (now (s .entry)) ⌝ }
         ensures lines { λ r. ⌜ Told (self .next) (now (s .entry)) (now (out .entry)) (now (out .exit)) (r .len) ⌝ }
     {
         let next = self.next + (s.len() / 16) as u64;

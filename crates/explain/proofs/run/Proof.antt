@@ -25,7 +25,7 @@ array-share-prefix-number : tie.Need-array-share-prefix-number
 array-share-prefix-number c = search needs
 
 slice-aggregate-new : tie.Need-slice-aggregate-new
-slice-aggregate-new c = sym (length-take-le _ _ (omega (arith, c .before .before .before .fill .ensures)))
+slice-aggregate-new c = sym (length-take-le _ _ (omega (arith, c .before .before .before .fill .ensures .0)))
 
 new-requires : tie.Need-new-requires
 new-requires c κs = search needs
@@ -33,8 +33,8 @@ new-requires c κs = search needs
 unread-requires : tie.Need-unread-requires
 unread-requires c κs = search needs
 
-search-requires : tie.Need-search-requires
-search-requires c κs = search needs
+answer-requires : tie.Need-answer-requires
+answer-requires c κs = search needs
 
 print-requires : tie.Need-print-requires
 print-requires c κs = search needs
@@ -61,7 +61,7 @@ run-spec =
     slice-aggregate-new
     new-requires
     unread-requires
-    search-requires
+    answer-requires
     print-requires
     returns
     returns-2

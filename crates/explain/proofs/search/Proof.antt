@@ -1,10 +1,11 @@
 -- `search`: each turn but the last passes 4,096 records that come before the one asked about, which ends the loop.
-use mathlib.Core.Path.{_≡_}
+use mathlib.Core.Path.{_≡_, sym, _∙_}
 use native.Mathlib.Omega.{arith}
 use borrow.Author.Needs.{needs}
-use lib.ListN.{length}
+use lib.ListN.{length, length-take}
+use Rattle.streams.proofs.Laws.{whole-and-wanted}
 use Rattle.events.specs.Explain.{afterPart}
-use Rattle.events.proofs.Explained.{ends-before}
+use Rattle.events.proofs.Explained.{ends-before, says-nothing}
 use Rattle.explain.proofs.search.Statement.{statement}
 use Rattle.explain.proofs.search.Tie as tie
 
@@ -30,9 +31,9 @@ loop-less : tie.Need-loop-less Inv-loop μ-loop
 unfolding afterPart
 loop-less c =
     let turn = c .before .before .before .advance in
-    let more = c .before .if1 .taken in
-    let fewer = ends-before _ _ (turn .ensures .1 more) in
-    rw (turn .ensures .0 more) (omega (arith, fewer, c .before .before .before .before .before .loop .inv))
+    let on = whole-and-wanted _ _ (sym (turn .ensures .1 .1) ∙ c .before .if1 .taken) in
+    let fewer = ends-before _ _ (sym (turn .ensures .1 .0) ∙ says-nothing _ (on .1)) in
+    rw (turn .ensures .0) (simp length-take (omega (arith, simp length-take at fewer, on .0)))
 
 loop-again : tie.Need-loop-again Inv-loop μ-loop
 loop-again c = search needs

@@ -25,7 +25,7 @@ array-share-prefix-page : tie.Need-array-share-prefix-page
 array-share-prefix-page c = search needs
 
 slice-aggregate-print : tie.Need-slice-aggregate-print
-slice-aggregate-print c = sym (length-take-le _ _ (omega (arith, c .before .before .before .fill .ensures)))
+slice-aggregate-print c = sym (length-take-le _ _ (omega (arith, c .before .before .before .fill .ensures .0)))
 
 print-requires : tie.Need-print-requires
 print-requires c κs = search needs

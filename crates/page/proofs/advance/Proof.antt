@@ -1,10 +1,11 @@
--- `advance`: where there may be more, a block is read whole, and has 4,096 records.
-use mathlib.Core.Path.{sym}
+-- `advance`: what was read of the block is taken, and its lines are within their room.
+use mathlib.Core.Bool.{true≢false}
+use mathlib.Core.Path.{refl, sym}
 use native.Mathlib.Omega.{arith}
 use lib.ListN.{length-take}
-use Rattle.page.proofs.Laws.{no-more}
-use lib.Seq.{length-take-le, take-all}
+use lib.Seq.{length-take-le}
 use borrow.Author.Needs.{needs}
+use Rattle.streams.specs.Blocks.{goesOn}
 use Rattle.page.proofs.advance.Statement.{statement}
 use Rattle.page.proofs.advance.Tie as tie
 
@@ -21,17 +22,18 @@ same-length : tie.Need-same-length
 same-length c = search needs
 
 returns : tie.Need-returns
-returns c = ((λ more. no-more more), (λ more. no-more more))
+unfolding goesOn
+returns c = (refl, λ ok. absurd (true≢false (sym ok)))
 
 slice-reshare-prefix-take : tie.Need-slice-reshare-prefix-take
 slice-reshare-prefix-take c = search needs
 
 slice-aggregate-take : tie.Need-slice-aggregate-take
-slice-aggregate-take c = sym (length-take-le _ _ (omega (arith, c .before .before .before .before .fill .ensures)))
+slice-aggregate-take c = sym (length-take-le _ _ (omega (arith, c .before .before .before .before .fill .ensures .0)))
 
 take-requires : tie.Need-take-requires
 take-requires c κs =
-    let filled = c .before .before .before .before .before .fill .ensures in
+    let filled = c .before .before .before .before .before .fill .ensures .0 in
     (rw length-take (omega (arith, filled)), search needs, search needs)
 
 slice-reshare-prefix-write : tie.Need-slice-reshare-prefix-write
@@ -39,13 +41,13 @@ slice-reshare-prefix-write c = search needs
 
 slice-aggregate-write : tie.Need-slice-aggregate-write
 slice-aggregate-write c =
-    sym (length-take-le _ _ (omega (arith, c .before .before .before .before .take .ensures .1 .1 .within)))
+    sym (length-take-le _ _ (omega (arith, c .before .before .before .before .take .ensures .1 .within)))
 
 write-requires : tie.Need-write-requires
 write-requires c κs = search needs
 
-finish-requires : tie.Need-finish-requires
-finish-requires c κs = search needs
+goes-on-requires : tie.Need-goes-on-requires
+goes-on-requires c κs = search needs
 
 same-length-2 : tie.Need-same-length-2
 same-length-2 c = search needs
@@ -54,30 +56,7 @@ same-length-3 : tie.Need-same-length-3
 same-length-3 c = search needs
 
 returns-2 : tie.Need-returns-2
-returns-2 c = ((λ more. no-more more), (λ more. no-more more))
-
-same-length-4 : tie.Need-same-length-4
-same-length-4 c = search needs
-
-same-length-5 : tie.Need-same-length-5
-same-length-5 c = search needs
-
-returns-3 : tie.Need-returns-3
-returns-3 c =
-    let taken = c .before .before .before .before .before .before .before in
-    let filled = taken .before .before .before .before .before .before .fill in
-    let all = take-all (filled .result .n) (filled .last .1 .0) (omega arith) in
-    let size = rw all at (taken .take .ensures .1 .0) in
-    ((λ more. omega (arith, size, filled .ensures)), (λ more. rw all at (taken .take .ensures .0)))
-
-same-length-6 : tie.Need-same-length-6
-same-length-6 c = search needs
-
-same-length-7 : tie.Need-same-length-7
-same-length-7 c = search needs
-
-returns-4 : tie.Need-returns-4
-returns-4 c = ((λ more. no-more more), (λ more. no-more more))
+returns-2 c = search needs
 
 pub advance-spec : {M : Type 1} → statement M
 advance-spec =
@@ -94,13 +73,7 @@ advance-spec =
     slice-reshare-prefix-write
     slice-aggregate-write
     write-requires
-    finish-requires
+    goes-on-requires
     same-length-2
     same-length-3
-    returns-2
-    same-length-4
-    same-length-5
-    returns-3
-    same-length-6
-    same-length-7
-    returns-4)
+    returns-2)

@@ -1,5 +1,6 @@
 -- `fill`: each read is of what is left of the buffer.
-use mathlib.Core.Path.{_≡_}
+use mathlib.Core.Bool.{true≢false}
+use mathlib.Core.Path.{_≡_, sym}
 use Prim.Native.Nat.{_≤_, _-_}
 use borrow.Author.Needs.{needs}
 use lib.ListN.{length}
@@ -46,7 +47,7 @@ same-length-2 : tie.Need-same-length-2 Inv-loop μ-loop
 same-length-2 c = search needs
 
 returns-2 : tie.Need-returns-2 Inv-loop μ-loop
-returns-2 c = search needs
+returns-2 c = (search needs, λ failed. absurd (true≢false (sym failed)))
 
 pub fill-spec : {M : Type 1} → statement M
 fill-spec =

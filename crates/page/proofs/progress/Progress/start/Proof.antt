@@ -1,6 +1,6 @@
 -- `Progress::start`: a new monitor, and record 0.
 use borrow.Author.Needs.{needs}
-use Rattle.page.proofs.Laws.{nothing-read}
+use Rattle.page.specs.Progress.{nothingRead}
 use Rattle.page.proofs.progress.Progress.start.Statement.{statement}
 use Rattle.page.proofs.progress.Progress.start.Tie as tie
 
@@ -8,7 +8,8 @@ new-requires : tie.Need-new-requires
 new-requires c κs = search needs
 
 returns : tie.Need-returns
-returns c = nothing-read _ (c .new .ensures)
+unfolding nothingRead
+returns c = rw (c .new .ensures)
 
 pub start-spec : {M : Type 1} → statement M
 start-spec = tie.close (tie.spec new-requires returns)
