@@ -58,7 +58,7 @@ gcc -std=c11 "${checks[@]}" -fsyntax-only -x c "$header"
 # 32 bits, with 64-bit numbers aligned as on Arm and RISC-V.
 gcc -std=c11 "${checks[@]}" -fsyntax-only -m32 -malign-double -ffreestanding -x c "$header"
 gcc -std=c99 "${checks[@]}" -O2 -o "$CARGO_TARGET_DIR/example" "$top/host/c/example.c" "$archive"
-"$CARGO_TARGET_DIR/example" | cmp - "$top/crates/page/stdout"
+"$CARGO_TARGET_DIR/example" | cmp - "$top/samples/example.page"
 
 echo "host: the reference"
 in_cargo test --manifest-path "$top/reference/Cargo.toml"

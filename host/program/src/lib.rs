@@ -12,7 +12,7 @@ use reference::mixed;
 
 /// Document 01's example, and what the page program prints for it.
 pub const SAMPLE: &str = concat!(env!("CARGO_MANIFEST_DIR"), "/../../samples/example.events");
-pub const SAMPLE_PAGE: &str = include_str!("../../../crates/page/stdout");
+pub const SAMPLE_PAGE: &str = include_str!("../../../samples/example.page");
 /// A program reads so many bytes at a time.
 pub const BLOCK: usize = 65_536;
 /// Whole records of a block.
