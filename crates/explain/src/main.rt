@@ -78,14 +78,21 @@ fn search(q: Question) -> Turn
     }
 }
 
+// Prints what the last block says: no read has failed.
+fn print_last(last: Turn)
+    requires { ⌜ last .failed ≡ false ⌝ }
+{
+    let said = last.said;
+    print(said);
+}
+
 // Prints what the file says of a question.
 fn answer(q: Question) {
     let last = search(q);
     if last.failed {
         os::fail(b"explain: cannot read");
     } else {
-        let said = last.said;
-        print(said);
+        print_last(last);
     }
 }
 

@@ -6,6 +6,13 @@ ghost use lib.Signed.{leZ};
 use libc::STDERR_FILENO;
 use libc::STDIN_FILENO;
 
+// Whether there is a descriptor.
+pub fn is_open(fd: i32) -> bool
+    ensures { λ r. ⌜ r ≡ leZ (pos 0) fd ⌝ }
+{
+    0 <= fd
+}
+
 fn usage() {
     io::write_all(STDERR_FILENO, b"usage: page [FILE]\n");
 }
@@ -15,7 +22,7 @@ fn open_named() -> i32 {
     let mut name = io::buffer();
     let n = os::arg(1, &mut name);
     let fd = os::open_read(&name[..n]);
-    if fd < 0 {
+    if !is_open(fd) {
         os::fail(&name[..n]);
         usage();
     }
@@ -41,11 +48,4 @@ fn open_by(words: usize) -> i32
 // The same, by the words of this run.
 pub fn open() -> i32 {
     open_by(os::arg_count())
-}
-
-// Whether there is a descriptor.
-pub fn is_open(fd: i32) -> bool
-    ensures { λ r. ⌜ r ≡ leZ (pos 0) fd ⌝ }
-{
-    0 <= fd
 }

@@ -41,13 +41,11 @@ pub fn fill(fd: i32, s: &mut [u8]) -> Filled
 {
     let mut n = 0;
     while n < s.len() {
-        let read = read_once(fd, &mut s[n..]);
+        let mut read = read_once(fd, &mut s[n..]);
         let more = read.n;
         if more == 0 {
-            return Filled {
-                n,
-                failed: read.failed,
-            };
+            read.n = n;
+            return read;
         }
         n += more;
     }
