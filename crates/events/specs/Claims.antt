@@ -75,8 +75,8 @@ ExplainedInParts =
     found (partsSaid (questionOf (take 4 input)) parts) (λ said. said) (numberSaid (length (take 4 input))) ≡
     inputSaid input
 
--- 02, Ticket 5: the monitor that `saidAt` asks, which the bytes of the records before make of a new one, is the one that
--- the accepted calls among them make: those that are refused are skipped
+-- 02, Ticket 5: the monitor that `saidAt` asks, which the bytes of the records before make of a new one, is the one
+-- that the accepted calls among them make of it: those that are refused are skipped
 unfoldable pub RefusedSkipped : Type 0
 RefusedSkipped =
     (s : List ℕ) (n : ℕ) →

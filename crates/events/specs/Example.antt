@@ -6,8 +6,8 @@ use Prim.Native.Nat.{ℕ}
 use Prim.Native.String.{String, [] as nothing, _∷_ as _then_}
 use Rattle.events.specs.Blocks.{printed}
 
--- settings with timer threshold 2, A-D 0, 1, 3, 9, mode 0, minimum window 0, trigger 0001h, discard 0, enable 1; elapsed
--- 1,000; completion 02h with 7,500
+-- settings with timer threshold 2, A-D 0, 1, 3, 9, mode 0, minimum window 0, trigger 0001h, discard 0, enable 1;
+-- elapsed 1,000; completion 02h with 7,500
 unfoldable pub exampleInput : List ℕ
 exampleInput =
     1 ∷ 2 ∷ 0 ∷ 0 ∷ 1 ∷ 3 ∷ 9 ∷ 0 ∷ 0 ∷ 0 ∷ 1 ∷ 0 ∷ 0 ∷ 1 ∷ 0 ∷ 0

@@ -12,8 +12,8 @@ use libc::STDERR_FILENO;
 use libc::STDIN_FILENO;
 use libc::STDOUT_FILENO;
 
-// What a block of the file left of the question, and said; its bytes, whether a read failed, and whether the next one is
-// to be read.
+// What a block of the file left of the question, and said; its bytes, whether a read failed, and whether the next one
+// is to be read.
 struct Turn {
     question: Question,
     said: Explained,

@@ -33,7 +33,9 @@ block-taken p s m played = rw played
 returns : tie.Need-returns
 returns c =
     let start = c .before .before .before .before .before .before .before .before in
-    let all = all-with-room (start .args .s .now) (start .args .out .now) (omega (arith, start .pre .0, start .pre .1)) in
+    let s = start .args .s .now in
+    let out = start .args .out .now in
+    let all = all-with-room s out (omega (arith, start .pre .0, start .pre .1)) in
     let replayed = rw all at (c .before .before .before .replay-block .ensures) in
     (block-taken _ _ _ (replayed .monitor), replayed .lines)
 
