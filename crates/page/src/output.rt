@@ -13,12 +13,11 @@ pub fn lines() -> [u8; 204800]
 
 // Writes, or says on standard error that it could not.
 pub fn write(s: &[u8]) -> bool {
-    if io::write_all(STDOUT_FILENO, s) {
-        true
-    } else {
+    let written = io::write_all(STDOUT_FILENO, s);
+    if !written {
         os::fail(b"page: cannot write");
-        false
     }
+    written
 }
 
 // The end, after a last block of n bytes: what was left over, and the page.
