@@ -28,7 +28,7 @@ BucketPlaces places = (bucket : ℕ) → bucket < 5 → getD places bucket 0 ≡
 abbrev pub codeOf : Command → ℕ
 codeOf c = 2 * c .opcode + cond (c .deallocate) 1 0
 
--- what the kind adds to that: 15, past every count, where there is none or the monitor is disabled
+-- what the kind adds to the bucket's place: 15, past every count, where there is none or the monitor is disabled
 unfoldable pub kindPlace : Bool → Command → ℕ
 kindPlace enabled c = cond enabled (cond (ltb (kindNumber (kindOf c)) 3) (kindNumber (kindOf c)) 15) 15
 

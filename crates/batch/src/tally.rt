@@ -27,7 +27,8 @@ const NO_PLACE: u8 = 15;
 // The bound where a completion can only count: every latency but the largest is below it.
 const NO_BOUND: u32 = 4_294_967_295;
 
-// The place of each bucket's first count. Where a latency has no bucket, it is below threshold A.
+// The place of each bucket's first count; a latency without a bucket, number 4, is below threshold A. A table: the
+// compiler makes a branch of 3 times the number.
 pub fn bucket_places() -> [usize; 5]
     ensures { λ r. ⌜ BucketPlaces r ⌝ }
 {
