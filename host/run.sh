@@ -1,10 +1,10 @@
 #!/usr/bin/env bash
-# Builds the C library, the page program and `explain` and tests them as their users see them: the library by its
-# symbols, its header, a C program, the Rust wrapper and the comparison with reference/, which has tests of its own; the
-# programs on files, on input in pieces and on what cannot be read or written.
+# Builds the C library and the programs `page`, `explain` and `listing`, and tests them as their users see them: the
+# library by its symbols, its header, a C program, the Rust wrapper and the comparison with reference/, which has tests
+# of its own; the programs on files, on input in pieces and on what cannot be read or written.
 #   host/run.sh
-# LATENCY_MONITOR_LIB may name the folder of a liblatency_monitor.a, LATENCY_MONITOR_PAGE a page program, and
-# LATENCY_MONITOR_EXPLAIN an `explain`, to test in place of the repository's own.
+# LATENCY_MONITOR_LIB may name the folder of a liblatency_monitor.a, and LATENCY_MONITOR_PAGE, LATENCY_MONITOR_EXPLAIN
+# and LATENCY_MONITOR_LISTING a program, to test in place of the repository's own.
 set -euo pipefail
 top=$(cd "$(dirname "$0")/.." && pwd)
 export CARGO_TARGET_DIR=$top/target/host
@@ -19,10 +19,14 @@ fi
 if [ -z "${LATENCY_MONITOR_EXPLAIN:-}" ]; then
     (cd "$top" && rt check explain)
 fi
+if [ -z "${LATENCY_MONITOR_LISTING:-}" ]; then
+    (cd "$top" && rt check listing)
+fi
 LATENCY_MONITOR_LIB=$(realpath "${LATENCY_MONITOR_LIB:-$top/target/staticlib}")
 LATENCY_MONITOR_PAGE=$(realpath "${LATENCY_MONITOR_PAGE:-$top/target/bin/page}")
 LATENCY_MONITOR_EXPLAIN=$(realpath "${LATENCY_MONITOR_EXPLAIN:-$top/target/bin/explain}")
-export LATENCY_MONITOR_LIB LATENCY_MONITOR_PAGE LATENCY_MONITOR_EXPLAIN
+LATENCY_MONITOR_LISTING=$(realpath "${LATENCY_MONITOR_LISTING:-$top/target/bin/listing}")
+export LATENCY_MONITOR_LIB LATENCY_MONITOR_PAGE LATENCY_MONITOR_EXPLAIN LATENCY_MONITOR_LISTING
 archive=$LATENCY_MONITOR_LIB/liblatency_monitor.a
 header=$top/include/latency_monitor.h
 
@@ -68,7 +72,7 @@ cd "$top/host"
 in_cargo test --package latency_monitor
 in_cargo run --package differential
 
-echo "host: page program and explain"
+echo "host: the programs"
 in_cargo test --package program
 
 echo "host: all passed"

@@ -13,6 +13,8 @@ use reference::mixed;
 /// Document 01's example, and what the page program prints for it.
 pub const SAMPLE: &str = concat!(env!("CARGO_MANIFEST_DIR"), "/../../samples/example.events");
 pub const SAMPLE_PAGE: &str = include_str!("../../../samples/example.page");
+/// A page, which the listing is stored of.
+pub const LISTED: &[u8] = include_bytes!("../../../crates/listing/stdin");
 /// A program reads so many bytes at a time.
 pub const BLOCK: usize = 65_536;
 /// Whole records of a block.
@@ -26,6 +28,7 @@ pub struct Program {
 
 pub const PAGE: Program = Program { name: "page", variable: "LATENCY_MONITOR_PAGE" };
 pub const EXPLAIN: Program = Program { name: "explain", variable: "LATENCY_MONITOR_EXPLAIN" };
+pub const LISTING: Program = Program { name: "listing", variable: "LATENCY_MONITOR_LISTING" };
 
 /// What a run wrote.
 pub struct Written {

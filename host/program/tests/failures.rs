@@ -5,19 +5,19 @@ use std::io::Write;
 use std::thread::sleep;
 use std::time::Duration;
 
-use program::{asked, Program, Written, BLOCK, EXPLAIN, PAGE, SAMPLE};
+use program::{asked, Program, Written, BLOCK, EXPLAIN, LISTED, LISTING, PAGE, SAMPLE};
 
 /// Long enough for a reader of nothing to be gone.
 const PAUSE: Duration = Duration::from_millis(100);
 
-/// Each program, and the sample as its standard input.
-fn programs() -> [(Program, Vec<u8>); 2] {
+/// Each program, and a sample as its standard input.
+fn programs() -> [(Program, Vec<u8>); 3] {
     let sample = fs::read(SAMPLE).expect("the sample");
-    [(EXPLAIN, asked(2, &sample)), (PAGE, sample)]
+    [(EXPLAIN, asked(2, &sample)), (LISTING, LISTED.to_vec()), (PAGE, sample)]
 }
 
-/// Runs of both programs.
-fn of_sample(redirections: &str) -> [Written; 2] {
+/// Runs of all programs.
+fn of_sample(redirections: &str) -> [Written; 3] {
     programs().map(|(program, input)| program.run(&[], redirections, |pipe| pipe.write_all(&input)))
 }
 
@@ -41,7 +41,8 @@ fn cannot_write(redirections: &str) {
 }
 
 fn says_usage(arguments: &[&str]) {
-    for ((program, input), usage) in programs().iter().zip(["usage: explain < INPUT", "usage: page [FILE]"]) {
+    let usages = ["usage: explain < INPUT", "usage: listing < PAGE", "usage: page [FILE]"];
+    for ((program, input), usage) in programs().iter().zip(usages) {
         let written = program.run(arguments, "", |pipe| pipe.write_all(input));
         assert!(written.errors.contains(usage), "no usage on standard error: {:?}", written.errors);
         assert_eq!(written.output, "");
@@ -83,12 +84,14 @@ fn two_arguments() {
     says_usage(&[SAMPLE, SAMPLE]);
 }
 
-/// The page program takes a name, and `explain` none.
+/// The page program takes a name, and the others none.
 #[test]
 fn name_of_a_file() {
-    let written = EXPLAIN.run(&[SAMPLE], "", |_| Ok(()));
-    says_only_a_line(&written);
-    assert_eq!(written.errors, "usage: explain < INPUT\n");
+    for (program, usage) in [(EXPLAIN, "usage: explain < INPUT\n"), (LISTING, "usage: listing < PAGE\n")] {
+        let written = program.run(&[SAMPLE], "", |_| Ok(()));
+        says_only_a_line(&written);
+        assert_eq!(written.errors, usage);
+    }
 }
 
 #[test]
