@@ -1,7 +1,7 @@
 // The parts of a record that a loop over many records keeps apart.
 
 // The clock and the timer after a call, and whether it is accepted and changes these alone.
-#[derive(Drop)]
+#[derive(Clone, Copy)]
 pub struct Passed {
     pub clock: u64,
     pub host_set: bool,
@@ -11,7 +11,7 @@ pub struct Passed {
 }
 
 // The active window. Its counts stand in one array, as `tally` says.
-#[derive(Drop)]
+#[derive(Clone, Copy)]
 pub struct Active {
     pub counts: [u64; 28],
     // For each place, the latency from which on a completion may do more than count there.
@@ -24,7 +24,7 @@ pub struct Active {
 }
 
 // What a completion leaves of its counter, and of the bound of its place.
-#[derive(Drop)]
+#[derive(Clone, Copy)]
 pub struct Stamped {
     pub stamp: u64,
     pub latency: u16,

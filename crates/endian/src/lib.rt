@@ -1,4 +1,6 @@
 // Bytes as numbers, the lowest byte first. Knows nothing of the monitor.
+#![tactic(auto)]
+
 mod loads;
 mod stores;
 

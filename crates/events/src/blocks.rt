@@ -14,7 +14,7 @@ use text::Line;
 const LINE: usize = 50;
 
 // What a block leaves: the monitor, and the lines of refused records in the first `len` bytes of the output.
-#[derive(Drop)]
+#[derive(Clone, Copy)]
 pub struct Block {
     pub monitor: Monitor,
     pub len: usize,

@@ -20,14 +20,14 @@ const NOT_A_COMPLETION: u8 = 16;
 
 // A record that is asked about: the monitor that the records so far have left, and how many are still to come before
 // it.
-#[derive(Drop)]
+#[derive(Clone, Copy)]
 pub struct Question {
     pub monitor: Monitor,
     pub before: u32,
 }
 
 // What a part of the input leaves of a question, and what is said.
-#[derive(Drop)]
+#[derive(Clone, Copy)]
 pub struct Explanation {
     pub next: Question,
     pub said: Explained,

@@ -11,7 +11,7 @@ use crate::stretch;
 use monitor::{Answer, Monitor};
 use records::RecordAnswer;
 
-#[derive(Drop)]
+#[derive(Clone, Copy)]
 pub struct Stop {
     pub monitor: Monitor,
     pub halt: Halt,

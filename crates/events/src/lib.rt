@@ -1,4 +1,6 @@
 // Event files: records of 16 bytes, the calls that they stand for, and what these make of a monitor.
+#![tactic(auto)]
+
 mod answers;
 mod blocks;
 mod explain;

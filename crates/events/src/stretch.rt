@@ -8,7 +8,7 @@ use batch::{passing, tally};
 use monitor::Monitor;
 
 // The monitor after a stretch, and how many records it has.
-#[derive(Drop)]
+#[derive(Clone, Copy)]
 pub(crate) struct Played {
     pub(crate) monitor: Monitor,
     pub(crate) records: usize,

@@ -1,5 +1,7 @@
 // explain < INPUT: prints why a completion of an event file does not load a latency stamp (document 02, Ticket 5). The
 // input is the record's number, and after it the file. It reads, calls and writes; what it prints is made by `events`.
+#![tactic(auto)]
+
 ghost use Rattle.std.specs.Prelude.{true, false, ◌≡◌, length, take};
 ghost use Rattle.monitor.specs.Calls.{found};
 ghost use Rattle.streams.specs.Blocks.{goes_on};
@@ -10,7 +12,7 @@ use libc::{STDERR_FILENO, STDIN_FILENO, STDOUT_FILENO};
 
 // What a block of the file left of the question, and said; its bytes, whether a read failed, and whether the next one
 // is to be read.
-#[derive(Drop)]
+#[derive(Clone, Copy)]
 struct Turn {
     question: Question,
     said: Explained,

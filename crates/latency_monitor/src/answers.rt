@@ -12,7 +12,7 @@ const ACCEPTED: u8 = 0;
 
 // The answer to a completion.
 #[repr(C)]
-#[derive(Drop)]
+#[derive(Clone, Copy)]
 pub struct PlainCompletionAnswer {
     // The counter's number, 0 if not counted.
     pub counter: u16,
@@ -25,7 +25,7 @@ pub struct PlainCompletionAnswer {
 
 // The answer to elapsed time.
 #[repr(C)]
-#[derive(Drop)]
+#[derive(Clone, Copy)]
 pub struct PlainElapsedAnswer {
     // Document 01's number, 0 if accepted.
     pub refusal: u8,
@@ -35,7 +35,7 @@ pub struct PlainElapsedAnswer {
 
 // The enabled completions of each kind below threshold A in a window.
 #[repr(C)]
-#[derive(Drop)]
+#[derive(Clone, Copy)]
 pub struct PlainBelowA {
     pub read: u32,
     pub write: u32,

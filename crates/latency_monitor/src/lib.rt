@@ -2,6 +2,8 @@
 // monitor's rule on the record, stores the record that comes back, and gives the answer as numbers;
 // include/latency_monitor.h declares them. `page`, `settings_back`, `reason` and the counts below threshold A only read
 // the record; `read_page` has no part in it, and is lent the fields of a page.
+#![tactic(auto)]
+
 mod answers;
 mod reading;
 

@@ -6,7 +6,7 @@ ghost use Rattle.latency_monitor.specs.Reading.{read_into, read_answer};
 use logpage::{Answer, LogPage, Reading};
 
 // The fields after a page was read, and the answer.
-#[derive(Drop)]
+#[derive(Clone, Copy)]
 pub struct ReadOutcome {
     pub next: Reading,
     pub answer: Answer,

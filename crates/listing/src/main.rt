@@ -1,5 +1,7 @@
 // listing < PAGE: prints the counters of a page, or why it is turned away (document 02, Ticket 1). It reads, calls and
 // writes; what it prints is made by `text`.
+#![tactic(auto)]
+
 ghost use Rattle.std.specs.Prelude.{◌≡◌, length};
 ghost use Rattle.text.specs.Claims.{enough};
 

@@ -1,6 +1,6 @@
 // What is answered where something may be turned away. Definitions give the number of each case (specs/Answers.antt).
 
-#[derive(Drop)]
+#[derive(Clone, Copy)]
 pub enum Answer {
     // The number of the rule that turned it away.
     Refused(u8),

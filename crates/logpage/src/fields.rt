@@ -6,7 +6,7 @@ use window::UNSET;
 
 // The settings in force.
 #[repr(C)]
-#[derive(Drop)]
+#[derive(Clone, Copy)]
 pub struct Settings {
     // Active Bucket Timer Threshold, in increments of five minutes.
     pub timer_threshold: u16,
@@ -40,7 +40,7 @@ impl Settings {
 
 // The debug log's own fields (document 01: debug record). None is held where the stamp is unset.
 #[repr(C)]
-#[derive(Drop)]
+#[derive(Clone, Copy)]
 pub struct DebugLog {
     pub stamp: u64,
     pub latency: u16,

@@ -1,4 +1,6 @@
 // Log page C3h: its plain fields, written to bytes and read back.
+#![tactic(auto)]
+
 mod answers;
 mod fields;
 mod page;

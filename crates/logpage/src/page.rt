@@ -18,7 +18,7 @@ pub(crate) const IDENTITY: [u64; 3] = [0x0004, 0x9C6C_84D0_8CC0_7A92, 0x85D4_5E5
 
 // What log page C3h shows.
 #[repr(C)]
-#[derive(Drop)]
+#[derive(Clone, Copy)]
 pub struct LogPage {
     pub settings: Settings,
     // Active Bucket Timer (document 01: steps).

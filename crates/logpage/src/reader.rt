@@ -15,7 +15,7 @@ use window::{UNSET, Window, block_reader};
 // What a page shows. The page has the debug log's counter as one set bit; its number stands beside, 0 where none is
 // held.
 #[repr(C)]
-#[derive(Drop)]
+#[derive(Clone, Copy)]
 pub struct Reading {
     pub page: LogPage,
     pub debug_held: bool,
@@ -23,7 +23,7 @@ pub struct Reading {
 }
 
 // A page that was read. One that is turned away shows what a new monitor's page does.
-#[derive(Drop)]
+#[derive(Clone, Copy)]
 pub struct PageRead {
     pub answer: Answer,
     pub reading: Reading,

@@ -1,4 +1,6 @@
 // The latency monitor: its record, and the calls that take the record and hand back the next one.
+#![tactic(auto)]
+
 mod reasons;
 mod record;
 mod report;

@@ -14,7 +14,7 @@ use window::{UNSET, Window};
 
 // What the firmware keeps. The order of the fields keeps calls cheap (docs/DECISIONS.md, 'Shape for speed').
 #[repr(C)]
-#[derive(Drop)]
+#[derive(Clone, Copy)]
 pub struct Monitor {
     pub settings: Settings,
     // Active Bucket Timer: increments of five minutes in the active window (document 01: steps).
@@ -38,19 +38,19 @@ pub struct Monitor {
 }
 
 // The next record and the answer.
-#[derive(Drop)]
+#[derive(Clone, Copy)]
 pub struct Outcome {
     pub next: Monitor,
     pub answer: Answer,
 }
 
-#[derive(Drop)]
+#[derive(Clone, Copy)]
 pub struct CompletionOutcome {
     pub next: Monitor,
     pub answer: CompletionAnswer,
 }
 
-#[derive(Drop)]
+#[derive(Clone, Copy)]
 pub struct ElapsedOutcome {
     pub next: Monitor,
     pub answer: ElapsedAnswer,

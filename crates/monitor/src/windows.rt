@@ -1,5 +1,5 @@
 // One of the record's windows.
-#[derive(Drop)]
+#[derive(Clone, Copy)]
 pub enum WindowChoice {
     Active,
     Static,

@@ -1,5 +1,7 @@
 // page [FILE]: reads an event file, standard input where none is named, prints the records that are refused, and then
 // the page (docs/MANUAL.md). It reads, calls and writes; what it prints is made by `progress` and the libraries.
+#![tactic(auto)]
+
 mod input;
 mod output;
 mod progress;
@@ -15,7 +17,7 @@ const RECORDS: u64 = 4_503_599_627_370_496;
 
 // What a block of input left; its bytes, whether they were read and their lines written, and whether the next one is to
 // be read.
-#[derive(Drop)]
+#[derive(Clone, Copy)]
 struct Turn {
     progress: Progress,
     n: usize,

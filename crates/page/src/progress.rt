@@ -10,14 +10,14 @@ use monitor::Monitor;
 use text::{Line, Text};
 
 // The monitor that the records so far have left, and the number of the next record.
-#[derive(Drop)]
+#[derive(Clone, Copy)]
 pub struct Progress {
     pub monitor: Monitor,
     pub next: u64,
 }
 
 // What a block of input leaves, and the bytes of its refused lines.
-#[derive(Drop)]
+#[derive(Clone, Copy)]
 pub struct Taken {
     pub progress: Progress,
     pub len: usize,

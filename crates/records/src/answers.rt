@@ -1,6 +1,6 @@
 // What a record answers. specs/Records.antt gives the number and the values of document 01 for each case.
 
-#[derive(Drop)]
+#[derive(Clone, Copy)]
 pub enum RecordAnswer {
     Refused(u8),
     Done,

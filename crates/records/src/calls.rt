@@ -8,7 +8,7 @@ use crate::records;
 use monitor::{Answer, CompletionAnswer, ElapsedAnswer, Monitor};
 
 // The next monitor and the answer.
-#[derive(Drop)]
+#[derive(Clone, Copy)]
 pub struct RecordOutcome {
     pub next: Monitor,
     pub answer: RecordAnswer,

@@ -1,4 +1,6 @@
 // One record of an event file: the call that 16 bytes stand for, and its answer.
+#![tactic(auto)]
+
 mod answers;
 mod calls;
 mod records;

@@ -2,7 +2,7 @@
 // of document 01 for each case.
 
 // The answer to a completion, which is never turned away.
-#[derive(Drop)]
+#[derive(Clone, Copy)]
 pub enum CompletionAnswer {
     NotCounted,
     // 'Not counted' too, of those below threshold A while enabled: a way out of its own, for speed (docs/DECISIONS.md,
@@ -15,7 +15,7 @@ pub enum CompletionAnswer {
 }
 
 // The answer to elapsed time.
-#[derive(Drop)]
+#[derive(Clone, Copy)]
 pub enum ElapsedAnswer {
     Refused(u8),
     // The active window goes on.

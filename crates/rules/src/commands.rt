@@ -11,7 +11,7 @@ use logpage::Settings;
 
 // What a completion brings.
 #[repr(C)]
-#[derive(Drop)]
+#[derive(Clone, Copy)]
 pub struct Command {
     // In microseconds.
     pub latency: u32,

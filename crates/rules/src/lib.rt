@@ -1,4 +1,6 @@
 // The rules of the monitor on plain values: settings, commands, counting and time, and what is answered and turned away.
+#![tactic(auto)]
+
 pub mod answers;
 pub mod commands;
 pub mod counting;

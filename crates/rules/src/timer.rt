@@ -12,7 +12,7 @@ pub const ELAPSED_TOP: u32 = 300_000;
 pub const CLOCK_TOP: u64 = 281_474_976_710_655;
 
 // The timer after elapsed time.
-#[derive(Drop)]
+#[derive(Clone, Copy)]
 pub struct Tick {
     pub timer: u16,
     pub partial: u32,

@@ -1,4 +1,6 @@
 // What is read by a descriptor until a buffer is full: for the programs.
+#![tactic(auto)]
+
 ghost use Rattle.std.specs.Prelude.{true, ◌≡◌, ◌≤◌, ◌<◌, leb, pos, length};
 ghost use Rattle.std.specs.Int.Signed.{lt_z};
 ghost use Rattle.streams.specs.Blocks.{goes_on};
@@ -7,7 +9,7 @@ ghost use Rattle.streams.specs.Blocks.{goes_on};
 const BLOCK: usize = 65_536;
 
 // What was read into a buffer: so many bytes, fewer than it holds at the input's end alone, or until a read failed.
-#[derive(Drop)]
+#[derive(Clone, Copy)]
 pub struct Filled {
     pub n: usize,
     pub failed: bool,

@@ -1,4 +1,6 @@
 // What the programs print: refused lines, a number alone, a page in hex, and a page's counters.
+#![tactic(auto)]
+
 mod lines;
 mod listing;
 mod pages;

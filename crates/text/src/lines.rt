@@ -6,7 +6,7 @@ ghost use Rattle.text.specs.Lines.{refused_line, number_line, as_line};
 ghost use Rattle.text.specs.Stored.{Stored};
 
 // The line is the first `len` bytes; the others are zero.
-#[derive(Drop)]
+#[derive(Clone, Copy)]
 pub struct Line {
     pub bytes: [u8; 50],
     pub len: usize,

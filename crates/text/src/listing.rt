@@ -10,7 +10,7 @@ use logpage::{Answer, LogPage};
 const COUNTERS: usize = 12;
 
 // The listing is the first `len` bytes; the others are zero.
-#[derive(Drop)]
+#[derive(Clone, Copy)]
 pub struct Listing {
     pub bytes: [u8; 768],
     pub len: usize,

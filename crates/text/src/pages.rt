@@ -14,7 +14,7 @@ const WIDTH: usize = 38;
 const LINES: usize = 30;
 
 // The text is the first `len` bytes; the others are zero.
-#[derive(Drop)]
+#[derive(Clone, Copy)]
 pub struct Text {
     pub bytes: [u8; 1140],
     pub len: usize,

@@ -11,7 +11,7 @@ pub const RECORD: usize = 16;
 const BLOCK: usize = 1024;
 
 // The monitor so far, how many bytes of the expected lines it has told, and whether it told no others.
-#[derive(Drop)]
+#[derive(Clone, Copy)]
 pub struct Told {
     pub monitor: Monitor,
     pub met: usize,

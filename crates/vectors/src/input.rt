@@ -5,7 +5,7 @@ ghost use Rattle.std.specs.Prelude.{◌≡◌, ◌≤◌, ◌<◌, length};
 const LONGEST_FILE: usize = 131072;
 
 // What a part of the file said; nothing, where the input ended before it or it does not fit.
-#[derive(Drop)]
+#[derive(Clone, Copy)]
 pub enum Part {
     Read(usize),
     Missing,

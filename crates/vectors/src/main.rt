@@ -1,5 +1,7 @@
 // Reads the file of vectors from standard input, runs the product over each vector, and compares byte for byte. Prints
 // a line for each group: its name, and how many of its vectors agree.
+#![tactic(auto)]
+
 mod blocks;
 mod compare;
 mod input;
@@ -22,7 +24,7 @@ const GROUP: usize = b'G' as usize;
 const END: usize = b'E' as usize;
 
 // What came of a step through the file.
-#[derive(Drop)]
+#[derive(Clone, Copy)]
 enum Step {
     Group,
     End,

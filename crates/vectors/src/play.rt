@@ -12,7 +12,7 @@ const PRESET: usize = 9;
 
 const ANSWER: usize = 2;
 
-#[derive(Drop)]
+#[derive(Clone, Copy)]
 pub struct Played {
     pub monitor: Monitor,
     // Whether each answer was the expected one.

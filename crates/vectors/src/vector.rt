@@ -6,7 +6,7 @@ use crate::{compare, input, pages, play, reasons, verdicts};
 use monitor::{Answer, Monitor, WindowChoice};
 
 // What a vector is of.
-#[derive(Drop)]
+#[derive(Clone, Copy)]
 pub enum Kind {
     Events,
     Settings,

@@ -1,5 +1,5 @@
 // What came of a vector.
-#[derive(Drop)]
+#[derive(Clone, Copy)]
 pub enum Verdict {
     Agrees,
     Differs,

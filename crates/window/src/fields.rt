@@ -9,7 +9,7 @@ pub const UNSET: u64 = 0xffff_ffff_ffff_ffff;
 // latency stamp, the measured latency in ms (shown latency), and the stamp units, set where the host had set the clock
 // (clock mark).
 #[repr(C)]
-#[derive(Drop)]
+#[derive(Clone, Copy)]
 pub struct Window {
     pub counters: [u32; 12],
     pub stamps: [u64; 12],

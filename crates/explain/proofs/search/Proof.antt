@@ -5,7 +5,7 @@ use borrow.Author.Rules.{rules}
 use lib.ListN.{length, length-take}
 use Rattle.streams.proofs.Laws.{whole-and-wanted}
 use Rattle.events.specs.Explain.{after_part}
-use Rattle.events.proofs.Explained.{ends-before, says_nothing}
+use Rattle.events.proofs.Explaining.{ends-before, says_nothing}
 use Rattle.explain.proofs.search.Statement.{statement}
 use Rattle.explain.proofs.search.Tie as tie
 

@@ -1,0 +1,22 @@
+-- `bounds`: the counters below n have their bound.
+use mathlib.Core.Path.{◌≡◌, refl, sym, ◌∙◌}
+use Prim.Native.Nat.{ℕ, ◌-◌, ◌≤◌, ◌<◌}
+use native.Mathlib.Omega.{arith}
+use lib.ListN.{length, get_or, get_or-replicate}
+use lib.Seq.{get_or-set_other}
+use Rattle.batch.specs.Tally.{counter_bound}
+use Rattle.batch.proofs.tally.Laws.{Filled, filled_more, no-bounds, all-bounds}
+use borrow.Author.Rules.{rules}
+use Rattle.batch.proofs.tally.bounds.Given as goal
+
+abbrev pub invariant-loop-n : goal.invariant-loop-n
+invariant-loop-n l =
+    (l.stamps ≡ l.m.active_window.stamps)
+    × (l.latencies ≡ l.m.active_window.latencies)
+    × (l.n ≤ 12)
+    × (length l.bounds ≡ 28)
+    × Filled (counter_bound l.m) l.bounds l.n
+    × ((place : ℕ) → 12 ≤ place → place < 15 → get_or l.bounds place 0 ≡ 4294967295)
+
+abbrev pub decreases-loop-n : goal.decreases-loop-n
+decreases-loop-n l = 12 - l.n

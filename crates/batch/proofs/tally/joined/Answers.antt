@@ -1,0 +1,49 @@
+-- `joined`: those of the counters below n are there, before those below threshold A, and none is above the top.
+use mathlib.Core.Path.{◌≡◌, refl, ◌∙◌}
+use Prim.Native.Nat.{ℕ, ◌≤◌, ◌<◌, ◌-◌}
+use native.Mathlib.Omega.{arith}
+use lib.ListN.{length, get_or, take, drop, length-map}
+use lib.Seq.{take_all, drop-set-lt}
+use Rattle.rules.specs.Counting.{held}
+use Rattle.batch.specs.Tally.{held_all, AtMost}
+use Rattle.batch.proofs.Counts.{at-most-set, three-at-most}
+use Rattle.batch.proofs.tally.Laws.{Filled, filled_more, held-set, the-counters, first_three}
+use borrow.Author.Rules.{rules}
+use Rattle.batch.proofs.tally.joined.Goals as goal
+
+pub loop-n-init : goal.loop-n-init
+loop-n-init c =
+    (
+      search rules,
+      search rules,
+      refl,
+      (λ j h. absurd (omega arith)),
+      three-at-most _ _ _ c.wide.ensures.1 c.wide-2.ensures.1 c.wide-3.ensures.1,
+    )
+
+pub loop-n-preserved : goal.loop-n-preserved
+loop-n-preserved c =
+    let room : c.loop-n.n < length (held_all c.loop-n.counts) =
+    omega (arith, length-map c.loop-n.counts held, c.loop-n.invariant.1, c.loop-n-test.true)
+    in (
+      search rules,
+      search rules,
+      rw (
+        held-set c.loop-n.counts c.loop-n.n c.wide-in-loop-n.result,
+        drop-set-lt 12 (held_all c.loop-n.counts) c.loop-n.n (held c.wide-in-loop-n.result) c.loop-n-test.true,
+      )
+          c.loop-n.invariant.2,
+      rw (held-set c.loop-n.counts c.loop-n.n c.wide-in-loop-n.result)
+          (filled_more _ (held_all c.loop-n.counts) c.loop-n.n _ c.loop-n.invariant.3 room c.wide-in-loop-n.ensures.0),
+      at-most-set c.loop-n.counts c.loop-n.n _ c.loop-n.invariant.4 (omega arith) c.wide-in-loop-n.ensures.1,
+    )
+
+pub returns : goal.returns
+returns c =
+    let all : c.loop-n.n ≡ 12 = omega (arith, c.loop-n.invariant.0) in
+    let size = length-map c.loop-n.counts held ∙ c.loop-n.invariant.1 in (
+      c.loop-n.invariant.2 ∙
+          rw (c.wide.ensures.0, c.wide-2.ensures.0, c.wide-3.ensures.0)
+          (first_three c.args.t1 (search rules) ∙ take_all 3 c.args.t1 (search rules)),
+      (the-counters (held_all c.loop-n.counts) c.args.t2 size (search rules) (rw all at c.loop-n.invariant.3), c.loop-n.invariant.4),
+    )

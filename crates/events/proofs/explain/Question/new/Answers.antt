@@ -1,0 +1,19 @@
+-- `Question::new`: four bytes are loaded whole, and fit.
+use Rattle.std.proofs.Common.{arith, rules}
+use Rattle.events.proofs.explain.Laws.{asks}
+use Rattle.records.proofs.Laws.{loaded, four-fit}
+use Rattle.events.proofs.explain.Question.new.Goals.{After-load-before}
+use Rattle.events.proofs.explain.Question.new.Goals as goal
+
+pub overflow_cast-before : goal.overflow_cast-before
+overflow_cast-before c =
+    omega (
+      arith,
+      four-fit c.args.number.now _ (rw c.first_bytes.ensures at c.load-before.ensures)
+          (λ k. omega (arith, c.shared_slice_known-1.given k)),
+    )
+
+pub returns : goal.returns
+returns c =
+    let number = rw (c.first_bytes.ensures, loaded c.args.number.now 4 (omega arith)) (goal.at.returns c).After-load-before c.load-before.ensures in
+    (asks _ _ _ c.new-monitor.ensures number, c.number_said-said.ensures)

@@ -1,0 +1,19 @@
+-- `LogPage::write`: head, windows and tail of a page of 512 bytes.
+use mathlib.Core.Path.{sym, ◌∙◌}
+use borrow.Author.Tests.{eq-eqb, ne_eqb}
+use borrow.Author.Rules.{rules}
+use Rattle.logpage.proofs.page.Laws.{page-run}
+use Rattle.logpage.proofs.page.LogPage.write.Goals as goal
+
+pub returns-then-page-eq512 : goal.returns-then-page-eq512
+returns-then-page-eq512 c =
+    let e = eq-eqb _ 512 c.if-page-eq512.true in
+    let whole =
+    page-run c.args.self c.args.page.now _ _ _ c.if-page-eq512.true c.write_head.ensures
+    c.write_windows.ensures
+    c.write_tail.ensures
+    in
+    (sym e, whole ∙ rw e)
+
+pub returns-else-page-eq512 : goal.returns-else-page-eq512
+returns-else-page-eq512 c = let e = ne_eqb _ 512 c.if-page-eq512.false in (sym e, rw e)

@@ -1,0 +1,12 @@
+-- `write_windows`: a block, zeros, a block, zeros.
+use borrow.Author.Rules.{rules}
+use Rattle.logpage.proofs.page.Laws.{windows-run}
+use Rattle.logpage.proofs.page.write_windows.Goals as goal
+
+pub returns : goal.returns
+returns c =
+    windows-run c.args.active_windows c.args.static_windows c.args.page.now _ _ _ _ c.requires
+    c.write_block.ensures
+    c.put.ensures
+    c.write_block-2.ensures
+    c.put-2.ensures

@@ -1,0 +1,14 @@
+-- `identity_in`: the fields fill the array.
+use mathlib.Core.Path.{refl, ◌∙◌}
+use lib.ListN.{replicate}
+use Rattle.endian.specs.Loads.{values_at}
+use Rattle.endian.proofs.Runs.{sets-whole}
+use Rattle.logpage.specs.Reader.{identity_in}
+use borrow.Author.Rules.{rules}
+use Rattle.logpage.proofs.reader.identity_in.Goals as goal
+
+pub returns : goal.returns
+unfolding values_at
+returns c =
+    c.load_fields.ensures ∙
+    sets-whole (replicate 3 0) (identity_in c.args.page.now) refl

@@ -1,0 +1,6 @@
+-- `tail_fits`: the rules of the last fields, one by one.
+use borrow.Author.Rules.{rules}
+use Rattle.logpage.proofs.reader.tail_fits.Goals as goal
+
+pub returns : goal.returns
+returns c = rw (c.debug_fits.ensures, c.debug_from.ensures)

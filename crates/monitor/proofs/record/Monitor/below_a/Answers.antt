@@ -1,0 +1,11 @@
+-- `below_a`: of the active window, and of the static one.
+use mathlib.Core.Path.{sym, ap}
+use Rattle.monitor.specs.Report.{counts_below_a}
+use borrow.Author.Rules.{rules}
+use Rattle.monitor.proofs.record.Monitor.below_a.Goals as goal
+
+pub returns-in-Active : goal.returns-in-Active
+returns-in-Active c = ap (λ w. counts_below_a w c.args.self) (sym c.enum_told-1.given.1)
+
+pub returns-in-Static : goal.returns-in-Static
+returns-in-Static c = ap (λ w. counts_below_a w c.args.self) (sym c.enum_told-in-Static-1.given.1)

@@ -1,0 +1,20 @@
+-- `Monitor::elapsed`: the window ends; it goes on; turned away by row 7.
+use borrow.Author.Tests.{lt-ltb}
+use Rattle.rules.specs.Refusals.{elapsed_refusal}
+use Rattle.monitor.proofs.record.Laws.{elapsed-accepted}
+use Rattle.monitor.specs.Record.{after_elapsed, elapsed_answer}
+use borrow.Author.Rules.{rules}
+use Rattle.monitor.proofs.record.Monitor.elapsed.Goals as goal
+
+pub returns-then-t : goal.returns-then-t
+returns-then-t c =
+    rw c.empty-e.ensures
+    (elapsed-accepted _ _ _ _ _ c.if-ms-le-ELAPSED_TOP.true c.ticked-t.ensures c.grown.ensures
+    c.if-t.true)
+
+pub returns-else-t : goal.returns-else-t
+returns-else-t c = elapsed-accepted _ _ _ _ _ c.if-ms-le-ELAPSED_TOP.true c.ticked-t.ensures c.grown.ensures c.if-t.false
+
+pub returns-else-ms-le-ELAPSED_TOP : goal.returns-else-ms-le-ELAPSED_TOP
+unfolding after_elapsed elapsed_answer elapsed_refusal
+returns-else-ms-le-ELAPSED_TOP c = (simp (lt-ltb _ _ c.if-ms-le-ELAPSED_TOP.false), simp (lt-ltb _ _ c.if-ms-le-ELAPSED_TOP.false))

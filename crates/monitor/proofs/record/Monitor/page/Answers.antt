@@ -1,0 +1,15 @@
+-- `page`: the page is written, or the buffer is not 512 bytes.
+use mathlib.Core.Path.{sym, ◌∙◌}
+use Rattle.monitor.proofs.report.Laws.{page-written, page-refused}
+use borrow.Author.Rules.{rules}
+use Rattle.monitor.proofs.record.Monitor.page.Goals as goal
+
+pub returns-then-write : goal.returns-then-write
+returns-then-write c =
+    page-written c.args.self c.args.page.now _ c.write.ensures.1
+    (sym c.if-write.true ∙ c.write.ensures.0)
+
+pub returns-else-write : goal.returns-else-write
+returns-else-write c =
+    page-refused c.args.self c.args.page.now _ c.write.ensures.1
+    (sym c.if-write.false ∙ c.write.ensures.0)

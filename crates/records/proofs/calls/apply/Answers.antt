@@ -1,0 +1,33 @@
+-- `apply`: no record; and by the record's kind, the answer of its call.
+use mathlib.Core.Path.{refl, sym, ◌∙◌}
+use Rattle.records.proofs.records.Laws.{stands-for, stands-for-none, not-sixteen, completion-call}
+use borrow.Author.Rules.{rules}
+use Rattle.records.proofs.calls.apply.Goals as goal
+
+pub elapsed-o-requires : goal.elapsed-o-requires
+elapsed-o-requires c = (c.if-r-ne-RECORD.false, sym c.is_elapsed.ensures ∙ c.if-is_elapsed.true)
+
+pub other-o-requires : goal.other-o-requires
+other-o-requires c =
+    (
+  c.if-r-ne-RECORD.false,
+  sym c.is_completion.ensures ∙ c.if-is_completion.false,
+  sym c.is_elapsed.ensures ∙ c.if-is_elapsed.false,
+)
+
+pub returns-then-r-ne-RECORD : goal.returns-then-r-ne-RECORD
+returns-then-r-ne-RECORD c = stands-for-none _ _ _ _ (not-sixteen _ c.if-r-ne-RECORD.true) refl refl
+
+pub returns-then-is_completion : goal.returns-then-is_completion
+returns-then-is_completion c =
+    stands-for _ _ _ _ _
+    (completion-call _ c.if-r-ne-RECORD.false _ c.command.ensures
+    (sym c.is_completion.ensures ∙ c.if-is_completion.true))
+    c.completion-o.ensures.0
+    (c.of_completion-answer.ensures ∙ c.completion-o.ensures.1.0)
+
+pub returns-then-is_elapsed : goal.returns-then-is_elapsed
+returns-then-is_elapsed c = (c.elapsed-o.ensures.0, c.of_elapsed-answer.ensures ∙ c.elapsed-o.ensures.1)
+
+pub returns-else-is_elapsed : goal.returns-else-is_elapsed
+returns-else-is_elapsed c = (c.other-o.ensures.0, c.of_other-answer.ensures ∙ c.other-o.ensures.1)

@@ -1,0 +1,11 @@
+-- `of_completion`: each case says the same.
+use mathlib.Core.Path.{sym, ap}
+use Rattle.rules.specs.Answers.{says_completion}
+use borrow.Author.Rules.{rules}
+use Rattle.records.proofs.calls.of_completion.Goals as goal
+
+pub returns-in-Counted : goal.returns-in-Counted
+returns-in-Counted c = sym (ap says_completion c.a-1.given.1)
+
+pub returns-in-Loaded : goal.returns-in-Loaded
+returns-in-Loaded c = sym (ap says_completion c.a-in-Loaded-1.given.1)

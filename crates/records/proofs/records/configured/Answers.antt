@@ -1,0 +1,6 @@
+-- `configured`: what the monitor makes of the record's settings.
+use borrow.Author.Rules.{rules}
+use Rattle.records.proofs.records.configured.Goals as goal
+
+pub returns : goal.returns
+returns c = rw (← c.settings_bytes-s.ensures) c.configure.ensures

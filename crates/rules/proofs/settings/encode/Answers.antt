@@ -1,0 +1,8 @@
+-- `encode`: its fields are the bytes.
+use mathlib.Core.Path.{◌∙◌}
+use Rattle.rules.proofs.settings.Laws.{encodes}
+use borrow.Author.Rules.{rules}
+use Rattle.rules.proofs.settings.encode.Goals as goal
+
+pub returns : goal.returns
+returns c = c.put_fields.ensures ∙ encodes c.args.s

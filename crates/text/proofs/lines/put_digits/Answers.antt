@@ -1,0 +1,15 @@
+-- `put_digits`: the digits that are left, stored from the start, give the whole.
+use mathlib.Core.Path.{◌≡◌}
+use Prim.Native.Nat.{◌≤◌}
+use borrow.Author.Rules.{rules}
+use lib.ListN.{length}
+use lib.Seq.{sets}
+use Rattle.text.specs.Lines.{digits}
+use Rattle.text.proofs.lines.Laws.{digits_more, digits-end}
+use Rattle.text.proofs.lines.put_digits.Goals as goal
+
+pub loop-i-preserved : goal.loop-i-preserved
+loop-i-preserved c = (search rules, search rules, digits_more _ _ _ c.loop-i.i c.loop-i.rest c.loop-i-test.true c.loop-i.invariant.2)
+
+pub returns : goal.returns
+returns c = digits-end _ _ _ _ _ c.loop-i-test.false c.loop-i.invariant.2

@@ -1,0 +1,10 @@
+-- `refused_record`: the line is stored in a room of zeros.
+use native.Mathlib.Omega.{arith}
+use Rattle.text.proofs.lines.Laws.{as_line_lem}
+use borrow.Author.Rules.{rules}
+use Rattle.text.proofs.lines.refused_record.Goals as goal
+
+pub returns : goal.returns
+returns c =
+    let in-room = as_line_lem _ _ _ _ (omega arith) c.Put-refused.ensures in
+    (in-room.0, (in-room.1, c.Put-refused.ensures.within))

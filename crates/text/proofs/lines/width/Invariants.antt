@@ -1,0 +1,12 @@
+-- `width`: the digits that are left, and those counted, are the number's.
+use native.Mathlib.Omega.{arith}
+use borrow.Author.Rules.{rules}
+use Prim.Native.Nat.{◌-◌}
+use Rattle.text.proofs.lines.Laws.{Wide, width-start, width-more, width-below-ten, width-last}
+use Rattle.text.proofs.lines.width.Given as goal
+
+abbrev pub invariant-loop-k : goal.invariant-loop-k
+invariant-loop-k l = Wide l.n l.rest l.k
+
+abbrev pub decreases-loop-k : goal.decreases-loop-k
+decreases-loop-k l = 20 - l.k

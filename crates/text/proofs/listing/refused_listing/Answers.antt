@@ -1,0 +1,8 @@
+-- `refused_listing`: the line is stored in a room of zeros.
+use native.Mathlib.Omega.{arith}
+use borrow.Author.Rules.{rules}
+use Rattle.text.proofs.listing.Laws.{as-listing}
+use Rattle.text.proofs.listing.refused_listing.Goals as goal
+
+pub returns : goal.returns
+returns c = as-listing _ _ _ _ (omega arith) c.Put-refused.ensures

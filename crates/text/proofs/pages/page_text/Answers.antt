@@ -1,0 +1,13 @@
+-- `page_text`: the lines are stored in a room of zeros.
+use native.Mathlib.Omega.{arith}
+use Rattle.text.proofs.pages.Laws.{as-text}
+use Rattle.text.proofs.Storing.{same-room}
+use borrow.Author.Rules.{rules}
+use Rattle.text.proofs.pages.page_text.Goals as goal
+
+pub returns : goal.returns
+returns c =
+    (
+  as-text _ _ _ c.put_lines-len.ensures,
+  omega (arith, same-room c.put_lines-len.ensures, c.put_lines-len.ensures.within),
+)

@@ -1,0 +1,16 @@
+-- `unit_bits`: the bits from n on.
+use mathlib.Core.Bool.{false}
+use mathlib.Core.Path.{◌≡◌, sym}
+use Prim.Native.Nat.{◌≤◌, ◌-◌}
+use native.Mathlib.Omega.{arith}
+use borrow.Author.Rules.{rules}
+use lib.ListN.{drop, get_or}
+use Rattle.window.specs.Block.{bits}
+use Rattle.window.proofs.block.Laws.{bits_none, bits-more, flag-below, bits_fit}
+use Rattle.window.proofs.block.unit_bits.Given as goal
+
+abbrev pub invariant-loop-n : goal.invariant-loop-n
+invariant-loop-n l = (l.n ≤ 12) × (l.r ≡ bits (drop l.n l.units))
+
+abbrev pub decreases-loop-n : goal.decreases-loop-n
+decreases-loop-n l = l.n

@@ -1,0 +1,20 @@
+-- `window_fits`: the counters that are left, asked from here, give the answer.
+use mathlib.Core.Bool.{Bool, false}
+use mathlib.Core.Path.{◌≡◌, refl}
+use Prim.Native.Nat.{ℕ, ◌≤◌, ◌-◌}
+use borrow.Author.Rules.{rules}
+use lib.ListN.{get_or}
+use Rattle.window.specs.Tests.{passes}
+use Rattle.window.specs.BlockReader.{counter_fits, window_fits}
+use Rattle.window.specs.Fields.{window_of, from}
+use Rattle.window.specs.declared.fields.Window.{Window}
+use Rattle.window.proofs.block_reader.Laws.{tests-more, tests-end}
+use Rattle.window.proofs.block_reader.window_fits.Given as goal
+
+abbrev pub invariant-loop-n : goal.invariant-loop-n
+invariant-loop-n l =
+    let w = window_of l.counters l.stamps l.latencies l.units in
+    (l.n ≤ 12) × (passes l.fits (from l.n (12 - l.n) (tested w)) ≡ window_fits w)
+
+abbrev pub decreases-loop-n : goal.decreases-loop-n
+decreases-loop-n l = 12 - l.n
