@@ -44,6 +44,6 @@ returns c =
     let size = length-map c.loop-n.counts held ∙ c.loop-n.invariant.1 in (
       c.loop-n.invariant.2 ∙
           rw (c.wide.ensures.0, c.wide-2.ensures.0, c.wide-3.ensures.0)
-          (first_three c.args.t1 (search rules) ∙ take_all 3 c.args.t1 (search rules)),
-      (the-counters (held_all c.loop-n.counts) c.args.t2 size (search rules) (rw all at c.loop-n.invariant.3), c.loop-n.invariant.4),
+          (first_three c.args.below (search rules) ∙ take_all 3 c.args.below (search rules)),
+      (the-counters (held_all c.loop-n.counts) c.args.counters size (search rules) (rw all at c.loop-n.invariant.3), c.loop-n.invariant.4),
     )

@@ -5,4 +5,4 @@ use borrow.Author.Rules.{rules}
 use Rattle.text.proofs.lines.refused_line.Goals as goal
 
 pub returns : goal.returns
-returns c = as_line_lem _ _ _ _ (omega arith) c.Put-refused.ensures
+returns c = as_line_lem _ _ _ _ (omega arith) c.put_refused-len.ensures

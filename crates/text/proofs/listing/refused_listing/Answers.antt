@@ -5,4 +5,4 @@ use Rattle.text.proofs.listing.Laws.{as-listing}
 use Rattle.text.proofs.listing.refused_listing.Goals as goal
 
 pub returns : goal.returns
-returns c = as-listing _ _ _ _ (omega arith) c.Put-refused.ensures
+returns c = as-listing _ _ _ _ (omega arith) c.put_refused-len.ensures
