@@ -23,11 +23,11 @@ returns-then-is_completion c =
     stands-for _ _ _ _ _
     (completion-call _ c.if-r-ne-RECORD.false _ c.command.ensures
     (sym c.is_completion.ensures ∙ c.if-is_completion.true))
-    c.completion-o.ensures.0
-    (c.of_completion-answer.ensures ∙ c.completion-o.ensures.1.0)
+    c.completion-o.ensures.next
+    (c.of_completion-answer.ensures ∙ c.completion-o.ensures.answer.0)
 
 pub returns-then-is_elapsed : goal.returns-then-is_elapsed
-returns-then-is_elapsed c = (c.elapsed-o.ensures.0, c.of_elapsed-answer.ensures ∙ c.elapsed-o.ensures.1)
+returns-then-is_elapsed c = record { next = c.elapsed-o.ensures.next; answer = c.of_elapsed-answer.ensures ∙ c.elapsed-o.ensures.answer }
 
 pub returns-else-is_elapsed : goal.returns-else-is_elapsed
-returns-else-is_elapsed c = (c.other-o.ensures.0, c.of_other-answer.ensures ∙ c.other-o.ensures.1)
+returns-else-is_elapsed c = record { next = c.other-o.ensures.next; answer = c.of_other-answer.ensures ∙ c.other-o.ensures.answer }

@@ -13,5 +13,5 @@ overflow_cast-load c =
 
 pub returns : goal.returns
 returns c =
-    stands-for _ _ _ _ _ (elapsed-call _ c.requires.0 _ c.load.ensures c.requires.1) c.elapsed.ensures.0
-    c.elapsed.ensures.1
+    stands-for _ _ _ _ _ (elapsed-call _ c.requires.0 _ c.load.ensures c.requires.1) c.elapsed.ensures.next
+    c.elapsed.ensures.answer

@@ -52,20 +52,20 @@ pub returns-then-is_below_a : goal.returns-then-is_below_a
 returns-then-is_below_a c =
     let below = sym c.if-is_below_a.true ∙ c.is_below_a.ensures in
     let u = uncounted _ _ _ (fast-uncounted _ _ (sym below)) c.counts_below_a-counts.ensures in
-    (u.0, (u.1, below))
+    record { next = u.0; answer = u.1; below_a = below }
 
 pub returns-then-loads : goal.returns-then-loads
 returns-then-loads c =
     let d = decided (goal.at.returns-then-loads c).After-loads true c.if-loads.true in
-    (rw (c.of-self.ensures, c.in_window.ensures) d.next, (d.answer, not-below (goal.at.returns-then-loads c).After-loads))
+    record { next = rw (c.of-self.ensures, c.in_window.ensures) d.next; answer = d.answer; below_a = not-below (goal.at.returns-then-loads c).After-loads }
 
 pub returns-else-loads : goal.returns-else-loads
 returns-else-loads c =
     let d = decided (goal.at.returns-else-loads c).After-loads false c.if-loads.false in
-    (rw c.of-self-else-loads.ensures d.next, (d.answer, not-below (goal.at.returns-else-loads c).After-loads))
+    record { next = rw c.of-self-else-loads.ensures d.next; answer = d.answer; below_a = not-below (goal.at.returns-else-loads c).After-loads }
 
 pub returns-else-counter-lt-NOT_COUNTED : goal.returns-else-counter-lt-NOT_COUNTED
 returns-else-counter-lt-NOT_COUNTED c =
     let not-below = sym c.if-is_below_a.false ∙ c.is_below_a.ensures in
     let u = not-counted _ _ (no-counter _ _ _ c.counter-counter.ensures c.if-counter-lt-NOT_COUNTED.false) (sym not-below) in
-    (u.0, (u.1, not-below))
+    record { next = u.0; answer = u.1; below_a = not-below }

@@ -17,4 +17,4 @@ returns-else-t c = elapsed-accepted _ _ _ _ _ c.if-ms-le-ELAPSED_TOP.true c.tick
 
 pub returns-else-ms-le-ELAPSED_TOP : goal.returns-else-ms-le-ELAPSED_TOP
 unfolding after_elapsed elapsed_answer elapsed_refusal
-returns-else-ms-le-ELAPSED_TOP c = (simp (lt-ltb _ _ c.if-ms-le-ELAPSED_TOP.false), simp (lt-ltb _ _ c.if-ms-le-ELAPSED_TOP.false))
+returns-else-ms-le-ELAPSED_TOP c = record { next = simp (lt-ltb _ _ c.if-ms-le-ELAPSED_TOP.false); answer = simp (lt-ltb _ _ c.if-ms-le-ELAPSED_TOP.false) }
