@@ -45,4 +45,6 @@ loop-i-preserved c =
     ran-far _ _ _ _ (c.loop-i.i + 1) _ one far.0 far.1.0 far.1.1
 
 pub returns : goal.returns
-returns c = ended _ _ _ c.loop-i.i c.loop-i.invariant (search rules)
+returns c =
+    let met = ended _ _ _ c.loop-i.i c.loop-i.invariant (search rules) in
+    record { monitor = met.0; halt = met.1 }
