@@ -26,7 +26,7 @@ returns-then-is_completion c =
     (completion-call _ c.if-r-ne-RECORD.false _ c.command.ensures
     (sym c.is_completion.ensures ∙ c.if-is_completion.true))
     c.completion-o.ensures.next
-    (c.of_completion-answer.ensures ∙ c.completion-o.ensures.answer.0) in
+    (c.of_completion-answer.ensures ∙ c.completion-o.ensures.answer) in
     record { next = met.0; answer = met.1 }
 
 pub returns-then-is_elapsed : goal.returns-then-is_elapsed
