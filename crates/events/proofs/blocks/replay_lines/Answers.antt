@@ -29,7 +29,7 @@ line :
     (c.loop-index.i + c.halt-1.given.0.0 + 1)
     (c.loop-index.len + c.put_line-len.result)
 line c =
-    let e = rw (part_to_end _ (16 * c.loop-index.i)) at c.run-stop.ensures.1 in
+    let e = rw (part_to_end _ (16 * c.loop-index.i)) at c.run-stop.ensures.halt in
     let stored = rw c.wrapping_add_u64-record.ensures at c.put_line-len.ensures in
     told_line _ _ _ _ _ c.loop-index.i _ _ _ c.loop-index.invariant.0.0 c.loop-index.invariant.1 (sym (ap says_halt c.halt-1.given.1) ∙ e)
     stored

@@ -23,11 +23,11 @@ loop-i-init c =
       in-force = refl;
       first-places = c.bucket_places-buckets.ensures;
       places = c.kind_places-kinds.ensures;
-      bound = λ place h. rw c.active-a.ensures.0 (c.active-a.ensures.1.0 place h);
+      bound = λ place h. rw c.active-a.ensures.window (c.active-a.ensures.bounds.0 place h);
       sizes = (search rules, search rules, search rules);
-      room = λ place. omega (arith, c.active-a.ensures.1.1 place);
+      room = λ place. omega (arith, c.active-a.ensures.bounds.1 place);
       accepted = λ j h. absurd (omega arith);
-      played = (search rules, c.active-a.ensures.0);
+      played = (search rules, c.active-a.ensures.window);
     }
 
 -- a record more, and a count more, fit
@@ -57,10 +57,10 @@ code-requires c =
 its-code :
     (c : goal.After-code) →
     (c.code.result ≡ code_of c.command-c.result) × (c.code.result < 512)
-its-code c = (rw c.command-c.ensures c.code.ensures.0, c.code.ensures.1)
+its-code c = (rw c.command-c.ensures c.code.ensures.code, c.code.ensures.few)
 
 pub bounds-kinds-code : goal.bounds-kinds-code
-bounds-kinds-code c = omega (arith, c.code.ensures.1)
+bounds-kinds-code c = omega (arith, c.code.ensures.few)
 
 pub overflow_cast-place-then-is_completion : goal.overflow_cast-place-then-is_completion
 overflow_cast-place-then-is_completion c = omega (arith, added c.loop-i.invariant c.command-c.result _ (its-code (goal.at.overflow_cast-place-then-is_completion c).After-code))
@@ -224,4 +224,4 @@ pub loop-i-preserved : goal.loop-i-preserved
 loop-i-preserved c = stretch-ends c.loop-i.invariant
 
 pub returns : goal.returns
-returns c = (c.with_active-monitor.ensures ∙ c.loop-i.invariant.played.1, (c.loop-i.invariant.played.0, c.loop-i.invariant.accepted))
+returns c = record { monitor = c.with_active-monitor.ensures ∙ c.loop-i.invariant.played.1; records = c.loop-i.invariant.played.0; accepted = c.loop-i.invariant.accepted }

@@ -16,4 +16,4 @@ overflow_cast-before c =
 pub returns : goal.returns
 returns c =
     let number = rw (c.first_bytes.ensures, loaded c.args.number.now 4 (omega arith)) (goal.at.returns c).After-load-before c.load-before.ensures in
-    (asks _ _ _ c.new-monitor.ensures number, c.number_said-said.ensures)
+    record { next = asks _ _ _ c.new-monitor.ensures number; said = c.number_said-said.ensures }
