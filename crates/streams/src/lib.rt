@@ -4,7 +4,8 @@
 
 mod failures;
 
-ghost use Rattle.std.specs.Prelude.{true, ◌≡◌, ◌≤◌, ◌<◌, IsSome, leb, length};
+ghost use Rattle.std.specs.Prelude.{true, ◌≡◌, ◌≤◌, ◌<◌, IsNone, IsSome, leb, length, take};
+ghost use Rattle.std.specs.Io.KnownBytes.{Consumes, IsAtEnd};
 ghost use Rattle.std.specs.Result.{result_err};
 ghost use Rattle.streams.specs.Blocks.{goes_on};
 
@@ -33,7 +34,9 @@ fn failed(got: io::Result<usize>) -> Option<io::Error>
 
 // One read.
 fn read_once<R: Read>(input: &mut R, s: &mut [u8]) -> Filled
-    ensures { result.n ≤ length s.old }
+    ensures within { result.n ≤ length s.old }
+    ensures bytes { Consumes (R.remaining input.old) (R.remaining input.new) (take result.n s.new) }
+    ensures end { IsNone result.failed → result.n ≡ 0 → 0 < length s.old → IsAtEnd (R.remaining input.new) }
 {
     let got = input.read(s);
     let n = got.unwrap_or(0);
@@ -45,6 +48,8 @@ fn read_once<R: Read>(input: &mut R, s: &mut [u8]) -> Filled
 pub fn fill<R: Read>(input: &mut R, s: &mut [u8]) -> Filled
     ensures within { result.n ≤ length s.old }
     ensures failed { IsSome result.failed → result.n < length s.old }
+    ensures bytes { Consumes (R.remaining input.old) (R.remaining input.new) (take result.n s.new) }
+    ensures end { IsNone result.failed → result.n < length s.old → IsAtEnd (R.remaining input.new) }
 {
     let mut n = 0;
     while n < s.len() {
