@@ -2,7 +2,7 @@
 ghost use Rattle.std.specs.Prelude.{◌≤◌};
 ghost use Rattle.streams.specs.declared.failures.TheConstants.{ROOM};
 
-use std::io::ErrorKind;
+use std::io::{ErrorKind, Write};
 use std::{fmt, io};
 
 // Room for an error's text. The longest that the C library has takes half of it.
@@ -39,7 +39,7 @@ fn without_number(text: &[u8]) -> &[u8] {
 }
 
 // Writes a line to standard error: what failed, as the caller names it, a colon and why.
-pub fn fail(errors: &impl Print, what: &[u8], why: io::Error) {
+pub fn fail<W: Write>(errors: &mut W, what: &[u8], why: io::Error) {
     let mut text = Text {
         bytes: [0; ROOM],
         len: 0,
@@ -52,7 +52,7 @@ pub fn fail(errors: &impl Print, what: &[u8], why: io::Error) {
 }
 
 // The same of a write; but where nobody reads the output any more, there is nothing to say.
-pub fn fail_to_write(errors: &impl Print, what: &[u8], why: io::Error) {
+pub fn fail_to_write<W: Write>(errors: &mut W, what: &[u8], why: io::Error) {
     if why.kind() != ErrorKind::BrokenPipe {
         fail(errors, what, why);
     }
