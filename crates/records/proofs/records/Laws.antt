@@ -488,14 +488,8 @@ named m c = by c
     by (below_a w) = refl
 
 -- answers other than a refusal name none
-pub let_through : (a : RecordAnswer) → OneOf (1 ∷ 2 ∷ 3 ∷ 4 ∷ []) (tag_of the_type a) → refusal_in (says_record a) ≡ none
-let_through (answer.Refused n) h = absurd (none_of h)
-  where
-    none_of : OneOf (1 ∷ 2 ∷ 3 ∷ 4 ∷ []) 0 → ⊥
-    none_of h =
-        ⊎_elim (λ w. absurd (omega arith))
-        (⊎_elim (λ w. absurd (omega arith)) (⊎_elim (λ w. absurd (omega arith)) (λ w. absurd (omega arith))))
-        h
+pub let_through : (a : RecordAnswer) → ((n : ℕ) → a ≡ answer.Refused n → ⊥) → refusal_in (says_record a) ≡ none
+let_through (answer.Refused n) h = absurd (h n refl)
 let_through answer.Done h = refl
 let_through answer.NotCounted h = refl
 let_through (answer.Counted n loaded debug) h = refl

@@ -87,6 +87,7 @@ pub digits_more :
     sets s at (digits i rest) ≡ goal →
     sets (set s (at + (i - 1)) (48 + rest % 10)) at (digits (i - 1) (rest / 10)) ≡ goal
 unfolding digits
+digits_more s goal at zero rest h e = elim h [ ]
 digits_more s goal at (suc k) rest h e =
     let one : suc k - 1 ≡ k = omega arith in
     let xs = digits k (rest / 10) in

@@ -7,7 +7,7 @@ use native.Mathlib.Numerals.{add-one}
 use native.Mathlib.Omega.{arith}
 use borrow.Author.Tests.{eqb-true, le-ltb}
 use lib.Dec.{eqb, ltb}
-use lib.ListN.{length, set}
+use lib.ListN.{length, get_or, set}
 use lib.Seq.{sets}
 use Rattle.endian.specs.Bytes.{any_set}
 use Rattle.endian.specs.Loads.{number, part, values_at}
@@ -63,6 +63,11 @@ unfolding flags
 flags-end l goal n rest h k =
     let p : 12 - n ≡ 0 = omega arith in
     rw p at k
+
+-- whether a counter of a window, by its number, keeps the rules
+abbrev pub tested : Window → ℕ → Bool
+tested w n =
+    counter_fits (get_or w.counters n 0) (get_or w.stamps n 0) (get_or w.latencies n 0) (get_or w.units n false)
 
 -- twelve tests: those that are left, asked from here, give the answer
 module _ (test : ℕ → Bool) where

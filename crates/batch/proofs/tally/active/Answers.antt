@@ -3,4 +3,4 @@ use borrow.Author.Rules.{rules}
 use Rattle.batch.proofs.tally.active.Goals as goal
 
 pub returns : goal.returns
-returns c = (rw (c.joined-counts.ensures.0, c.joined-counts.ensures.1.0), (c.bounds-bounds.ensures, c.joined-counts.ensures.1.1))
+returns c = record { window = rw (c.joined-counts.ensures.below, c.joined-counts.ensures.counters); bounds = c.bounds-bounds.ensures; top = c.joined-counts.ensures.top }

@@ -11,17 +11,17 @@ use Rattle.batch.proofs.tally.below_of.Goals as goal
 
 pub returns : goal.returns
 returns c =
-    let all : 15 ≤ length c.args.t1 = search rules in
-    let below = drop 12 (held_all c.args.t1) in
+    let all : 15 ≤ length c.args.counts = search rules in
+    let below = drop 12 (held_all c.args.counts) in
     rw (
       c.held-3.ensures,
       c.held-2.ensures,
       c.held.ensures,
-      ← held_at c.args.t1 12,
-      ← held_at c.args.t1 13,
-      ← held_at c.args.t1 14,
-      ← get_or-drop 12 (held_all c.args.t1) 0 0,
-      ← get_or-drop 12 (held_all c.args.t1) 1 0,
-      ← get_or-drop 12 (held_all c.args.t1) 2 0,
+      ← held_at c.args.counts 12,
+      ← held_at c.args.counts 13,
+      ← held_at c.args.counts 14,
+      ← get_or-drop 12 (held_all c.args.counts) 0 0,
+      ← get_or-drop 12 (held_all c.args.counts) 1 0,
+      ← get_or-drop 12 (held_all c.args.counts) 2 0,
     )
-    (first_three below (omega (arith, length-drop 12 (held_all c.args.t1), length-map c.args.t1 held, all)))
+    (first_three below (omega (arith, length-drop 12 (held_all c.args.counts), length-map c.args.counts held, all)))

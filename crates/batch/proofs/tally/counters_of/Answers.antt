@@ -14,12 +14,12 @@ loop-n-init c = (search rules, search rules, λ j h. absurd (omega arith))
 
 pub loop-n-preserved : goal.loop-n-preserved
 loop-n-preserved c =
-    let is = c.held.ensures ∙ sym (held_at c.args.t1 c.loop-n.n) in
+    let is = c.held.ensures ∙ sym (held_at c.args.counts c.loop-n.n) in
     (search rules, search rules, filled_more _ c.loop-n.counters c.loop-n.n _ c.loop-n.invariant.2 (search rules) is)
 
 pub returns : goal.returns
 returns c =
     let all : c.loop-n.n ≡ 12 = omega (arith, c.loop-n.invariant.0) in
-    let size : length c.args.t1 ≡ 28 = search rules in
+    let size : length c.args.counts ≡ 28 = search rules in
     let filled = rw all at c.loop-n.invariant.2 in
-    sym (the-counters (held_all c.args.t1) c.loop-n.counters (length-map c.args.t1 held ∙ size) c.loop-n.invariant.1 (λ j h. sym (filled j h)))
+    sym (the-counters (held_all c.args.counts) c.loop-n.counters (length-map c.args.counts held ∙ size) c.loop-n.invariant.1 (λ j h. sym (filled j h)))

@@ -18,7 +18,7 @@ loop-n-init c =
       search rules,
       refl,
       (λ j h. absurd (omega arith)),
-      three-at-most _ _ _ c.wide.ensures.1 c.wide-2.ensures.1 c.wide-3.ensures.1,
+      three-at-most _ _ _ c.wide.ensures.top c.wide-2.ensures.top c.wide-3.ensures.top,
     )
 
 pub loop-n-preserved : goal.loop-n-preserved
@@ -34,16 +34,13 @@ loop-n-preserved c =
       )
           c.loop-n.invariant.2,
       rw (held-set c.loop-n.counts c.loop-n.n c.wide-in-loop-n.result)
-          (filled_more _ (held_all c.loop-n.counts) c.loop-n.n _ c.loop-n.invariant.3 room c.wide-in-loop-n.ensures.0),
-      at-most-set c.loop-n.counts c.loop-n.n _ c.loop-n.invariant.4 (omega arith) c.wide-in-loop-n.ensures.1,
+          (filled_more _ (held_all c.loop-n.counts) c.loop-n.n _ c.loop-n.invariant.3 room c.wide-in-loop-n.ensures.count),
+      at-most-set c.loop-n.counts c.loop-n.n _ c.loop-n.invariant.4 (omega arith) c.wide-in-loop-n.ensures.top,
     )
 
 pub returns : goal.returns
 returns c =
     let all : c.loop-n.n ≡ 12 = omega (arith, c.loop-n.invariant.0) in
-    let size = length-map c.loop-n.counts held ∙ c.loop-n.invariant.1 in (
-      c.loop-n.invariant.2 ∙
-          rw (c.wide.ensures.0, c.wide-2.ensures.0, c.wide-3.ensures.0)
-          (first_three c.args.t1 (search rules) ∙ take_all 3 c.args.t1 (search rules)),
-      (the-counters (held_all c.loop-n.counts) c.args.t2 size (search rules) (rw all at c.loop-n.invariant.3), c.loop-n.invariant.4),
-    )
+    let size = length-map c.loop-n.counts held ∙ c.loop-n.invariant.1 in record { below = c.loop-n.invariant.2 ∙
+          rw (c.wide.ensures.count, c.wide-2.ensures.count, c.wide-3.ensures.count)
+          (first_three c.args.below (search rules) ∙ take_all 3 c.args.below (search rules)); counters = the-counters (held_all c.loop-n.counts) c.args.counters size (search rules) (rw all at c.loop-n.invariant.3); top = c.loop-n.invariant.4 }

@@ -26,7 +26,7 @@ loop-i-preserved c =
     )
 
 pub returns : goal.returns
-returns c =
+returns c command few =
     by (ltb (code_of command) 32) refl
   where
     by :

@@ -6,10 +6,10 @@ use Rattle.events.proofs.blocks.end_line.Goals as goal
 
 pub returns-in-Refused : goal.returns-in-Refused
 returns-in-Refused c =
-    let refused = sym (ap says_answer c.number-1.given.1) ∙ c.left_over.ensures in
-    (some-line _ _ _ _ c.refused_record.ensures.0 refused, c.refused_record.ensures.1)
+    let refused = c.in-Refused.ensures in
+    record { value = some-line _ _ _ _ c.refused_record.ensures.value refused; len_in_bounds = c.refused_record.ensures.len_in_bounds }
 
 pub returns-in-Done : goal.returns-in-Done
 returns-in-Done c =
-    let done = sym (ap says_answer c.enum_told-1.given.1) ∙ c.left_over.ensures in
-    (none-line _ _ _ c.no_line.ensures.0 done, c.no_line.ensures.1)
+    let done = c.in-Done.ensures in
+    record { value = none-line _ _ _ c.no_line.ensures.value done; len_in_bounds = c.no_line.ensures.len_in_bounds }

@@ -13,36 +13,40 @@ loop-i-init c = started _ _
 pub returns-in-Refused : goal.returns-in-Refused
 returns-in-Refused c =
     let s =
-    stopped _ _ _ _ c.loop-i.i _ _ c.loop-i.invariant (the-record _ c.loop-i.i) c.apply-o.ensures.0
-    (refusal-named _ _ _ (sym (ap says_record c.answer-1.given.1) ∙ c.apply-o.ensures.1))
+    stopped _ _ _ _ c.loop-i.i _ _ c.loop-i.invariant (the-record _ c.loop-i.i) c.apply-o.ensures.next
+    (refusal-named _ _ _ (sym (ap says_record c.in-Refused.is) ∙ c.apply-o.ensures.answer))
     (search rules)
     in
-    (c.refused_at.ensures.0 ∙ s.0, c.refused_at.ensures.1 ∙ s.1)
+    record { monitor = c.refused_at.ensures.monitor ∙ s.0; halt = c.refused_at.ensures.halt ∙ s.1 }
 
 pub overflow_add-i-in-loop-i : goal.overflow_add-i-in-loop-i
 overflow_add-i-in-loop-i c =
     omega (
       arith,
-      few-behind c.args.s.now c.loop-i.i _ (search rules) c.stretch-quick.ensures.1.0,
+      few-behind c.args.s.now c.loop-i.i _ (search rules) c.stretch-quick.ensures.records,
     )
 
 pub loop-i-smaller : goal.loop-i-smaller
 loop-i-smaller c =
     omega (
       arith,
-      few-behind c.args.s.now c.loop-i.i _ (search rules) c.stretch-quick.ensures.1.0,
+      few-behind c.args.s.now c.loop-i.i _ (search rules) c.stretch-quick.ensures.records,
     )
 
 pub loop-i-preserved : goal.loop-i-preserved
 loop-i-preserved c =
     let one =
-    went_on _ _ _ _ c.loop-i.i _ c.loop-i.invariant (the-record _ c.loop-i.i) c.apply-o.ensures.0
-    (refusal-named _ _ _ c.apply-o.ensures.1 ∙
-    let_through c.apply-o.result.answer c.in-Refused.keys2)
+    went_on _ _ _ _ c.loop-i.i _ c.loop-i.invariant (the-record _ c.loop-i.i) c.apply-o.ensures.next
+    (refusal-named _ _ _ c.apply-o.ensures.answer ∙
+    let_through c.apply-o.result.answer c.in_default.not-Refused)
     (search rules)
     in
-    let far = rw (behind c.args.s.now c.loop-i.i (search rules)) at c.stretch-quick.ensures in
-    ran-far _ _ _ _ (c.loop-i.i + 1) _ one far.0 far.1.0 far.1.1
+    let monitor = rw (behind c.args.s.now c.loop-i.i (search rules)) at c.stretch-quick.ensures.monitor in
+    let records = rw (behind c.args.s.now c.loop-i.i (search rules)) at c.stretch-quick.ensures.records in
+    let accepted = rw (behind c.args.s.now c.loop-i.i (search rules)) at c.stretch-quick.ensures.accepted in
+    ran-far _ _ _ _ (c.loop-i.i + 1) _ one monitor records accepted
 
 pub returns : goal.returns
-returns c = ended _ _ _ c.loop-i.i c.loop-i.invariant (search rules)
+returns c =
+    let met = ended _ _ _ c.loop-i.i c.loop-i.invariant (search rules) in
+    record { monitor = met.0; halt = met.1 }

@@ -23,11 +23,11 @@ loop-i-init c =
       in-force = refl;
       first-places = c.bucket_places-buckets.ensures;
       places = c.kind_places-kinds.ensures;
-      bound = λ place h. rw c.active-a.ensures.0 (c.active-a.ensures.1.0 place h);
+      bound = λ place h. rw c.active-a.ensures.window (c.active-a.ensures.bounds place h);
       sizes = (search rules, search rules, search rules);
-      room = λ place. omega (arith, c.active-a.ensures.1.1 place);
+      room = λ place. omega (arith, c.active-a.ensures.top place);
       accepted = λ j h. absurd (omega arith);
-      played = (search rules, c.active-a.ensures.0);
+      played = (search rules, c.active-a.ensures.window);
     }
 
 -- a record more, and a count more, fit
@@ -57,10 +57,10 @@ code-requires c =
 its-code :
     (c : goal.After-code) →
     (c.code.result ≡ code_of c.command-c.result) × (c.code.result < 512)
-its-code c = (rw c.command-c.ensures c.code.ensures.0, c.code.ensures.1)
+its-code c = (rw c.command-c.ensures c.code.ensures.code, c.code.ensures.few)
 
 pub bounds-kinds-code : goal.bounds-kinds-code
-bounds-kinds-code c = omega (arith, c.code.ensures.1)
+bounds-kinds-code c = omega (arith, c.code.ensures.few)
 
 pub overflow_cast-place-then-is_completion : goal.overflow_cast-place-then-is_completion
 overflow_cast-place-then-is_completion c = omega (arith, added c.loop-i.invariant c.command-c.result _ (its-code (goal.at.overflow_cast-place-then-is_completion c).After-code))
@@ -79,10 +79,7 @@ its-call c =
 
 -- the place, and that the tables have it
 abbrev its-place : goal.After-code → ℕ
-its-place c =
-    let tables = c.before.before.before.before.before.before.before.before.before in
-    get_or tables.before.bucket-places.result c.before.bucket.result 0 +
-    get_or tables.kind-places.result c.code.result 0
+its-place c = get_or c.bucket_places-buckets.result c.bucket.result 0 + get_or c.kind_places-kinds.result c.code.result 0
 
 in_table : (c : goal.After-code) → its-place c < 28
 in_table c =
@@ -105,8 +102,7 @@ bounds-a-place c = omega (arith, in_table (goal.at.bounds-a-place c).After-code)
 another :
     (c : goal.After-code) →
     get_or c.loop-i.a.counts (its-place c) 0 + 1 < 18446744073709551616
-another c =
-    omega (arith, c.loop-i.invariant.room (its-place c), one-more-fits c.BEFORE)
+another c = omega (arith, c.loop-i.invariant.room (its-place c), c.loop-i-test.true, c.loop-i.invariant.within)
 
 pub offset_bounds-a-place-then-c-a : goal.offset_bounds-a-place-then-c-a
 offset_bounds-a-place-then-c-a c = omega (arith, in_table (goal.at.offset_bounds-a-place-then-c-a c).After-code)
@@ -129,7 +125,7 @@ loop-i-preserved-then-c-a c =
 
 -- the counter that is looked at
 a-counter : (c : goal.After-counter_at-n) → c.counter_at-n.result < 12
-a-counter c = omega (arith, c.counter_at-n.ensures, few-counters (its-place c.BEFORE))
+a-counter c = omega (arith, c.counter_at-n.ensures, few-counters (get_or c.bucket_places-buckets.result c.bucket.result 0 + get_or c.kind_places-kinds.result c.code.result 0))
 
 pub offset_bounds-a-n : goal.offset_bounds-a-n
 offset_bounds-a-n c = omega (arith, a-counter (goal.at.offset_bounds-a-n c).After-counter_at-n)
@@ -224,4 +220,4 @@ pub loop-i-preserved : goal.loop-i-preserved
 loop-i-preserved c = stretch-ends c.loop-i.invariant
 
 pub returns : goal.returns
-returns c = (c.with_active-monitor.ensures ∙ c.loop-i.invariant.played.1, (c.loop-i.invariant.played.0, c.loop-i.invariant.accepted))
+returns c = record { monitor = c.with_active-monitor.ensures ∙ c.loop-i.invariant.played.1; records = c.loop-i.invariant.played.0; accepted = c.loop-i.invariant.accepted }

@@ -5,4 +5,4 @@ use Rattle.latency_monitor.specs.Answers.{as_refusal}
 use Rattle.latency_monitor.proofs.answers.page.Goals as goal
 
 pub returns : goal.returns
-returns c = (c.page.ensures.0, c.refusal.ensures ∙ ap as_refusal c.page.ensures.1)
+returns c = record { bytes = c.page.ensures.bytes; answer = c.refusal.ensures ∙ ap as_refusal c.page.ensures.answer }

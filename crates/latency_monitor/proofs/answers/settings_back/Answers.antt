@@ -5,4 +5,4 @@ use Rattle.latency_monitor.specs.Answers.{as_refusal}
 use Rattle.latency_monitor.proofs.answers.settings_back.Goals as goal
 
 pub returns : goal.returns
-returns c = (c.settings_back.ensures.0, c.refusal.ensures ∙ ap as_refusal c.settings_back.ensures.1)
+returns c = record { bytes = c.settings_back.ensures.bytes; answer = c.refusal.ensures ∙ ap as_refusal c.settings_back.ensures.answer }

@@ -28,10 +28,10 @@ read_whole old r page e reading = (rw (reading, e), rw e)
 
 pub returns-in-Refused : goal.returns-in-Refused
 returns-in-Refused c =
-    let refusal = sym c.read-read.ensures.0 ∙ ap refusal_in c.said-1.given.1 in
+    let refusal = sym c.read-read.ensures.answer ∙ ap refusal_in c.said-1.given.1 in
     turned-away _ _ _ refusal
 
 pub returns-in-Done : goal.returns-in-Done
 returns-in-Done c =
-    let refusal = sym c.read-read.ensures.0 ∙ ap refusal_in c.enum_told-1.given.1 in
-    read_whole _ _ _ refusal c.read-read.ensures.1
+    let refusal = sym c.read-read.ensures.answer ∙ ap refusal_in c.enum_told-1.given.1 in
+    read_whole _ _ _ refusal c.read-read.ensures.reading

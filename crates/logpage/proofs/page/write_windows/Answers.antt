@@ -5,7 +5,7 @@ use Rattle.logpage.proofs.page.write_windows.Goals as goal
 
 pub returns : goal.returns
 returns c =
-    windows-run c.args.active_windows c.args.static_windows c.args.page.now _ _ _ _ c.requires
+    windows-run c.args.active_window c.args.static_window c.args.page.now _ _ _ _ c.requires
     c.write_block.ensures
     c.put.ensures
     c.write_block-2.ensures

@@ -5,8 +5,8 @@ use Rattle.logpage.proofs.reader.keeps.Goals as goal
 
 pub returns : goal.returns
 returns c =
-    page-kept c.args.page.now c.args.head c.args.tail c.args.active_windows
-    c.args.static_windows
+    page-kept c.args.page.now c.args.head c.args.tail c.args.active_window
+    c.args.static_window
     _
     _
     _

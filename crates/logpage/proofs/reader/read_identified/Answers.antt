@@ -52,7 +52,7 @@ returns-then-keeps c =
     c.settings_from-settings.ensures
     c.debug_from-debug.ensures
     in
-    (sym fits, c.shown-reading.ensures ∙ rw (fits, fields))
+    record { answer = sym fits; reading = c.shown-reading.ensures ∙ rw (fits, fields) }
 
 pub returns-else-keeps : goal.returns-else-keeps
 returns-else-keeps c =
@@ -64,4 +64,4 @@ returns-else-keeps c =
     c.keeps.ensures
     c.if-keeps.false
     in
-    (ap refusal_in c.refused.ensures.0 ∙ sym broken, c.refused.ensures.1 ∙ rw broken)
+    record { answer = ap refusal_in c.refused.ensures.0 ∙ sym broken; reading = c.refused.ensures.1 ∙ rw broken }

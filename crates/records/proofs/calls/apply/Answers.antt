@@ -16,18 +16,21 @@ other-o-requires c =
 )
 
 pub returns-then-r-ne-RECORD : goal.returns-then-r-ne-RECORD
-returns-then-r-ne-RECORD c = stands-for-none _ _ _ _ (not-sixteen _ c.if-r-ne-RECORD.true) refl refl
+returns-then-r-ne-RECORD c =
+    let met = stands-for-none _ _ _ _ (not-sixteen _ c.if-r-ne-RECORD.true) refl refl in
+    record { next = met.0; answer = met.1 }
 
 pub returns-then-is_completion : goal.returns-then-is_completion
 returns-then-is_completion c =
-    stands-for _ _ _ _ _
+    let met = stands-for _ _ _ _ _
     (completion-call _ c.if-r-ne-RECORD.false _ c.command.ensures
     (sym c.is_completion.ensures ∙ c.if-is_completion.true))
-    c.completion-o.ensures.0
-    (c.of_completion-answer.ensures ∙ c.completion-o.ensures.1.0)
+    c.completion-o.ensures.next
+    (c.of_completion-answer.ensures ∙ c.completion-o.ensures.answer) in
+    record { next = met.0; answer = met.1 }
 
 pub returns-then-is_elapsed : goal.returns-then-is_elapsed
-returns-then-is_elapsed c = (c.elapsed-o.ensures.0, c.of_elapsed-answer.ensures ∙ c.elapsed-o.ensures.1)
+returns-then-is_elapsed c = record { next = c.elapsed-o.ensures.next; answer = c.of_elapsed-answer.ensures ∙ c.elapsed-o.ensures.answer }
 
 pub returns-else-is_elapsed : goal.returns-else-is_elapsed
-returns-else-is_elapsed c = (c.other-o.ensures.0, c.of_other-answer.ensures ∙ c.other-o.ensures.1)
+returns-else-is_elapsed c = record { next = c.other-o.ensures.next; answer = c.of_other-answer.ensures ∙ c.other-o.ensures.answer }

@@ -5,7 +5,7 @@ use borrow.Author.Rules.{rules}
 use Rattle.records.proofs.calls.of_completion.Goals as goal
 
 pub returns-in-Counted : goal.returns-in-Counted
-returns-in-Counted c = sym (ap says_completion c.a-1.given.1)
+returns-in-Counted c = sym (ap says_completion c.in-Counted.is)
 
 pub returns-in-Loaded : goal.returns-in-Loaded
-returns-in-Loaded c = sym (ap says_completion c.a-in-Loaded-1.given.1)
+returns-in-Loaded c = sym (ap says_completion c.in-Loaded.is)

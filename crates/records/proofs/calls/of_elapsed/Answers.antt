@@ -5,4 +5,4 @@ use borrow.Author.Rules.{rules}
 use Rattle.records.proofs.calls.of_elapsed.Goals as goal
 
 pub returns-in-Refused : goal.returns-in-Refused
-returns-in-Refused c = sym (ap says_elapsed c.a-1.given.1)
+returns-in-Refused c = sym (ap says_elapsed c.in-Refused.is)

@@ -5,4 +5,4 @@ use borrow.Author.Rules.{rules}
 use Rattle.records.proofs.calls.of_other.Goals as goal
 
 pub returns-in-Refused : goal.returns-in-Refused
-returns-in-Refused c = sym (ap says_answer c.a-1.given.1)
+returns-in-Refused c = sym (ap says_answer c.in-Refused.is)

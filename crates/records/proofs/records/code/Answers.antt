@@ -17,4 +17,4 @@ pub overflow_add-result : goal.overflow_add-result
 overflow_add-result c = omega (arith, c.shared_slice_known-2-1.given 1, c.shared_slice_known-2-1.given 2)
 
 pub returns : goal.returns
-returns c = (code_is c.args.r.now c.requires.1, omega (arith, its-attribute c.args.r.now c.requires.1, c.shared_slice_known-2-1.given 1))
+returns c = record { code = code_is c.args.r.now c.requires.1; few = omega (arith, its-attribute c.args.r.now c.requires.1, c.shared_slice_known-2-1.given 1) }

@@ -3,4 +3,8 @@ use borrow.Author.Rules.{rules}
 use Rattle.records.proofs.records.configured.Goals as goal
 
 pub returns : goal.returns
-returns c = rw (← c.settings_bytes-s.ensures) c.configure.ensures
+returns c =
+    record {
+      next = rw (← c.settings_bytes-s.ensures) c.configure.ensures.next;
+      answer = rw (← c.settings_bytes-s.ensures) c.configure.ensures.answer;
+    }

@@ -13,5 +13,6 @@ overflow_cast-load c =
 
 pub returns : goal.returns
 returns c =
-    stands-for _ _ _ _ _ (elapsed-call _ c.requires.0 _ c.load.ensures c.requires.1) c.elapsed.ensures.0
-    c.elapsed.ensures.1
+    let met = stands-for _ _ _ _ _ (elapsed-call _ c.requires.0 _ c.load.ensures c.requires.1) c.elapsed.ensures.next
+    c.elapsed.ensures.answer in
+    record { next = met.0; answer = met.1 }

@@ -8,13 +8,13 @@ use Rattle.rules.proofs.counting.Laws.{written, none_written, write-more}
 use Rattle.rules.proofs.counting.counted_below_a.Goals as goal
 
 pub loop-i-init : goal.loop-i-init
-loop-i-init c = (search rules, none_written once_more c.args.t1 c.args.kind)
+loop-i-init c = (search rules, none_written once_more c.args.counts c.args.kind)
 
 pub loop-i-preserved : goal.loop-i-preserved
 loop-i-preserved c =
     (
       search rules,
-      rw c.counted_once.ensures (write-more once_more c.args.t1 c.args.kind _ _ c.loop-i.invariant.1),
+      rw c.counted_once.ensures (write-more once_more c.args.counts c.args.kind _ _ c.loop-i.invariant.1),
     )
 
 pub returns : goal.returns

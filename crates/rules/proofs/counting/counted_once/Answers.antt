@@ -8,7 +8,10 @@ pub returns-then-count-lt-COUNTER_TOP : goal.returns-then-count-lt-COUNTER_TOP
 returns-then-count-lt-COUNTER_TOP c = rw c.one_if.ensures (counts-below-top c.args.count c.args.here c.if-count-lt-COUNTER_TOP.true)
 
 pub overflow_add-result : goal.overflow_add-result
-overflow_add-result c = record { fits = rw (returns (goal.at.overflow_add-result c).After-one_if) (counted-fits c.args.count c.args.here c.ranges.count.fits) }
+overflow_add-result c =
+    let e = counts-below-top c.args.count c.args.here c.if-count-lt-COUNTER_TOP.true in
+    let f = counted-fits c.args.count c.args.here c.ranges.count.fits in
+    rw (c.one_if.ensures, e) (search rules)
 
 pub returns-else-count-lt-COUNTER_TOP : goal.returns-else-count-lt-COUNTER_TOP
 returns-else-count-lt-COUNTER_TOP c = counts-at-top c.args.count c.args.here c.ranges.count.fits c.if-count-lt-COUNTER_TOP.false

@@ -6,4 +6,4 @@ use Rattle.text.proofs.lines.no_line.Goals as goal
 
 pub returns : goal.returns
 unfolding as_line
-returns c = (refl, (search rules, search rules))
+returns c = record { value = refl; len_in_bounds = (search rules, search rules) }

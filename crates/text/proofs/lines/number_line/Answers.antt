@@ -5,4 +5,6 @@ use borrow.Author.Rules.{rules}
 use Rattle.text.proofs.lines.number_line.Goals as goal
 
 pub returns : goal.returns
-returns c = as_line_lem _ _ _ _ (omega arith) (line-number _ _ _ _ c.put_decimal-width.ensures)
+returns c =
+    let met = as_line_lem _ _ _ _ (omega arith) (line-number _ _ _ _ c.put_decimal-width.ensures) in
+    record { value = met.0; len_in_bounds = met.1 }

@@ -5,4 +5,6 @@ use borrow.Author.Rules.{rules}
 use Rattle.text.proofs.lines.refused_line.Goals as goal
 
 pub returns : goal.returns
-returns c = as_line_lem _ _ _ _ (omega arith) c.Put-refused.ensures
+returns c =
+    let met = as_line_lem _ _ _ _ (omega arith) c.put_refused-len.ensures in
+    record { value = met.0; len_in_bounds = met.1 }

@@ -6,5 +6,5 @@ use Rattle.text.proofs.lines.refused_record.Goals as goal
 
 pub returns : goal.returns
 returns c =
-    let in-room = as_line_lem _ _ _ _ (omega arith) c.Put-refused.ensures in
-    (in-room.0, (in-room.1, c.Put-refused.ensures.within))
+    let in-room = as_line_lem _ _ _ _ (omega arith) c.put_refused-len.ensures in
+    record { value = in-room.0; len_in_bounds = (in-room.1, c.put_refused-len.ensures.within) }

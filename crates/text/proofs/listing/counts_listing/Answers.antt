@@ -5,4 +5,6 @@ use Rattle.text.proofs.listing.Laws.{as-listing}
 use Rattle.text.proofs.listing.counts_listing.Goals as goal
 
 pub returns : goal.returns
-returns c = as-listing _ _ _ _ (omega arith) c.put_listing-len.ensures
+returns c =
+    let met = as-listing _ _ _ _ (omega arith) c.put_listing-len.ensures in
+    record { value = met.0; len_in_bounds = met.1 }

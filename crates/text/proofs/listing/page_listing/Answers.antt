@@ -7,10 +7,10 @@ use Rattle.text.proofs.listing.page_listing.Goals as goal
 
 pub returns-in-Refused : goal.returns-in-Refused
 returns-in-Refused c =
-    let refusal = sym c.read-read.ensures.0 ∙ ap refusal_in c.answer-1.given.1 in
-    (rw (page-refused _ _ refusal) c.refused_listing.ensures.0, c.refused_listing.ensures.1)
+    let refusal = sym c.read-read.ensures.answer ∙ ap refusal_in c.in-Refused.is in
+    record { value = rw (page-refused _ _ refusal) c.refused_listing.ensures.value; len_in_bounds = c.refused_listing.ensures.len_in_bounds }
 
 pub returns-in-Done : goal.returns-in-Done
 returns-in-Done c =
-    let refusal = sym c.read-read.ensures.0 ∙ ap refusal_in c.enum_told-1.given.1 in
-    (rw (page-read _ _ refusal c.read-read.ensures.1) c.counts_listing.ensures.0, c.counts_listing.ensures.1)
+    let refusal = sym c.read-read.ensures.answer ∙ ap refusal_in c.in-Done.is in
+    record { value = rw (page-read _ _ refusal c.read-read.ensures.reading) c.counts_listing.ensures.value; len_in_bounds = c.counts_listing.ensures.len_in_bounds }

@@ -5,4 +5,6 @@ use Rattle.text.proofs.listing.Laws.{as-listing}
 use Rattle.text.proofs.listing.refused_listing.Goals as goal
 
 pub returns : goal.returns
-returns c = as-listing _ _ _ _ (omega arith) c.Put-refused.ensures
+returns c =
+    let met = as-listing _ _ _ _ (omega arith) c.put_refused-len.ensures in
+    record { value = met.0; len_in_bounds = met.1 }

@@ -7,7 +7,4 @@ use Rattle.text.proofs.pages.page_text.Goals as goal
 
 pub returns : goal.returns
 returns c =
-    (
-  as-text _ _ _ c.put_lines-len.ensures,
-  omega (arith, same-room c.put_lines-len.ensures, c.put_lines-len.ensures.within),
-)
+    record { value = as-text _ _ _ c.put_lines-len.ensures; len_in_bounds = omega (arith, same-room c.put_lines-len.ensures, c.put_lines-len.ensures.within) }

@@ -3,7 +3,6 @@ use mathlib.Core.Path.{sym, ◌∙◌}
 use Rattle.text.proofs.pages.Laws.{line-stored, line-skipped, line-at, row-length}
 use Rattle.text.proofs.Storing.{same-room}
 use borrow.Author.Rules.{rules}
-use Rattle.text.proofs.pages.put_line.Goals.{After-slice_known-then-any_set-2-1}
 use Rattle.text.proofs.pages.put_line.Goals as goal
 
 pub returns-then-any_set : goal.returns-then-any_set
@@ -11,9 +10,6 @@ returns-then-any_set c =
     let set = sym c.any_set.ensures ∙ c.if-any_set.true in
     line-at _ _ _ _ _ _ (line-stored _ _ _ _ _ _ (row-length _ _ c.requires.1) set c.put_offset.ensures
     c.put_bytes.ensures)
-
-pub shape_of-out : goal.shape_of-out
-shape_of-out c = same-room (returns (goal.at.shape_of-out c).After-slice_known-then-any_set-2-1)
 
 pub returns-else-any_set : goal.returns-else-any_set
 returns-else-any_set c = line-at _ _ _ _ _ _ (line-skipped _ _ _ _ (sym c.any_set.ensures ∙ c.if-any_set.false))

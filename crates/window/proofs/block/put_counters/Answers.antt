@@ -19,7 +19,7 @@ loop-b-preserved c =
     (
       search rules,
       search rules,
-      buckets-more c.args.t2 _ _ _ c.loop-b.b (search rules) (search rules)
+      buckets-more c.args.counters _ _ _ c.loop-b.b (search rules) (search rules)
           c.loop-b.invariant.2
           c.put_bucket.ensures,
     )

@@ -14,7 +14,7 @@ loop-n-preserved c =
     let p : c.latency_place-at.result ≡ 160 + 2 * (12 - c.loop-n.n) = omega (arith, c.latency_place-at.ensures) in (
       search rules,
       search rules,
-      downward-more 2 c.args.t2 _ _ _ c.loop-n.n _ _ _ _ c.loop-n-test.true p (omega arith) (omega arith) (omega arith)
+      downward-more 2 c.args.latencies _ _ _ c.loop-n.n _ _ _ _ c.loop-n-test.true p (omega arith) (omega arith) (omega arith)
           c.loop-n.invariant.2
           c.put.ensures,
     )

@@ -14,7 +14,7 @@ loop-n-preserved c =
     let p : c.stamp_place-at.result ≡ 64 + 8 * (12 - c.loop-n.n) = omega (arith, c.stamp_place-at.ensures) in (
       search rules,
       search rules,
-      downward-more 8 c.args.t2 _ _ _ c.loop-n.n _ _ _ _ c.loop-n-test.true p (omega arith) (omega arith) (omega arith)
+      downward-more 8 c.args.stamps _ _ _ c.loop-n.n _ _ _ _ c.loop-n-test.true p (omega arith) (omega arith) (omega arith)
           c.loop-n.invariant.2
           c.put.ensures,
     )

@@ -12,4 +12,4 @@ returns c =
     ∙ block_read c.args.block.now _ _ _ _ _ c.read_counters-counters.ensures c.read_stamps-stamps.ensures
     c.read_latencies-latencies.ensures
     (loaded c.args.block.now 184 184 2 _ refl (omega arith) c.load.ensures)
-    c.Units-in.ensures
+    c.units_in-units.ensures

@@ -8,12 +8,8 @@ use Rattle.window.specs.Tests.{passes}
 use Rattle.window.specs.BlockReader.{counter_fits, window_fits}
 use Rattle.window.specs.Fields.{window_of, from}
 use Rattle.window.specs.declared.fields.Window.{Window}
-use Rattle.window.proofs.block_reader.Laws.{tests-more, tests-end}
+use Rattle.window.proofs.block_reader.Laws.{tested, tests-more, tests-end}
 use Rattle.window.proofs.block_reader.window_fits.Goals as goal
-
-abbrev tested : Window → ℕ → Bool
-tested w n =
-    counter_fits (get_or w.counters n 0) (get_or w.stamps n 0) (get_or w.latencies n 0) (get_or w.units n false)
 
 pub loop-n-init : goal.loop-n-init
 unfolding window_fits

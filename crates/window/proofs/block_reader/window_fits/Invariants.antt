@@ -8,7 +8,7 @@ use Rattle.window.specs.Tests.{passes}
 use Rattle.window.specs.BlockReader.{counter_fits, window_fits}
 use Rattle.window.specs.Fields.{window_of, from}
 use Rattle.window.specs.declared.fields.Window.{Window}
-use Rattle.window.proofs.block_reader.Laws.{tests-more, tests-end}
+use Rattle.window.proofs.block_reader.Laws.{tested, tests-more, tests-end}
 use Rattle.window.proofs.block_reader.window_fits.Given as goal
 
 abbrev pub invariant-loop-n : goal.invariant-loop-n

@@ -13,7 +13,7 @@ returns-then-page-eq512 c =
     c.write_windows.ensures
     c.write_tail.ensures
     in
-    (sym e, whole ∙ rw e)
+    record { written = sym e; bytes = whole ∙ rw e }
 
 pub returns-else-page-eq512 : goal.returns-else-page-eq512
-returns-else-page-eq512 c = let e = ne_eqb _ 512 c.if-page-eq512.false in (sym e, rw e)
+returns-else-page-eq512 c = let e = ne_eqb _ 512 c.if-page-eq512.false in record { written = sym e; bytes = rw e }

@@ -5,7 +5,7 @@ use borrow.Author.Rules.{rules}
 use Rattle.monitor.proofs.record.Monitor.below_a.Goals as goal
 
 pub returns-in-Active : goal.returns-in-Active
-returns-in-Active c = ap (λ w. counts_below_a w c.args.self) (sym c.enum_told-1.given.1)
+returns-in-Active c = record { counts = ap (λ w. counts_below_a w c.args.self) (sym c.in-Active.is) }
 
 pub returns-in-Static : goal.returns-in-Static
-returns-in-Static c = ap (λ w. counts_below_a w c.args.self) (sym c.enum_told-in-Static-1.given.1)
+returns-in-Static c = record { counts = ap (λ w. counts_below_a w c.args.self) (sym c.in-Static.is) }

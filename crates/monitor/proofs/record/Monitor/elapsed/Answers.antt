@@ -8,13 +8,14 @@ use Rattle.monitor.proofs.record.Monitor.elapsed.Goals as goal
 
 pub returns-then-t : goal.returns-then-t
 returns-then-t c =
-    rw c.empty-e.ensures
-    (elapsed-accepted _ _ _ _ _ c.if-ms-le-ELAPSED_TOP.true c.ticked-t.ensures c.grown.ensures
-    c.if-t.true)
+    let met = elapsed-accepted _ _ _ _ _ c.if-ms-le-ELAPSED_TOP.true c.ticked-t.ensures c.grown.ensures c.if-t.true in
+    record { next = rw c.empty-e.ensures met.0; answer = met.1 }
 
 pub returns-else-t : goal.returns-else-t
-returns-else-t c = elapsed-accepted _ _ _ _ _ c.if-ms-le-ELAPSED_TOP.true c.ticked-t.ensures c.grown.ensures c.if-t.false
+returns-else-t c =
+    let met = elapsed-accepted _ _ _ _ _ c.if-ms-le-ELAPSED_TOP.true c.ticked-t.ensures c.grown.ensures c.if-t.false in
+    record { next = met.0; answer = met.1 }
 
 pub returns-else-ms-le-ELAPSED_TOP : goal.returns-else-ms-le-ELAPSED_TOP
 unfolding after_elapsed elapsed_answer elapsed_refusal
-returns-else-ms-le-ELAPSED_TOP c = (simp (lt-ltb _ _ c.if-ms-le-ELAPSED_TOP.false), simp (lt-ltb _ _ c.if-ms-le-ELAPSED_TOP.false))
+returns-else-ms-le-ELAPSED_TOP c = record { next = simp (lt-ltb _ _ c.if-ms-le-ELAPSED_TOP.false); answer = simp (lt-ltb _ _ c.if-ms-le-ELAPSED_TOP.false) }

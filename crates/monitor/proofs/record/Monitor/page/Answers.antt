@@ -6,10 +6,12 @@ use Rattle.monitor.proofs.record.Monitor.page.Goals as goal
 
 pub returns-then-write : goal.returns-then-write
 returns-then-write c =
-    page-written c.args.self c.args.page.now _ c.write.ensures.1
-    (sym c.if-write.true ∙ c.write.ensures.0)
+    let met = page-written c.args.self c.args.page.now _ c.write.ensures.bytes
+    (sym c.if-write.true ∙ c.write.ensures.written) in
+    record { bytes = met.0; answer = met.1 }
 
 pub returns-else-write : goal.returns-else-write
 returns-else-write c =
-    page-refused c.args.self c.args.page.now _ c.write.ensures.1
-    (sym c.if-write.false ∙ c.write.ensures.0)
+    let met = page-refused c.args.self c.args.page.now _ c.write.ensures.bytes
+    (sym c.if-write.false ∙ c.write.ensures.written) in
+    record { bytes = met.0; answer = met.1 }

@@ -5,4 +5,4 @@ use Rattle.monitor.proofs.record.Monitor.power_up.Goals as goal
 
 pub returns : goal.returns
 unfolding after_power_up
-returns c = (refl, refl)
+returns c = record { next = refl; answer = refl }

@@ -14,7 +14,7 @@ counter-few : (c : goal.After-counter-counter) → c.counter-counter.result < 12
 counter-few c =
     rw c.counter-counter.ensures
     (has-counter _ _ (not-false _ c.if-not-self.false)
-    (sym c.has_kind-no_kind.ensures ∙ not-false _ c.if-no_kind.false)
+    (sym c.has_kind-no_kind.ensures ∙ c.if-no_kind.false)
     (sym c.is_below_a-below_a.ensures ∙ c.if-below_a.false))
 
 pub stamp_reason-requires : goal.stamp_reason-requires
@@ -26,12 +26,12 @@ returns-then-not-self c = sym (reason-disabled _ _ (not-true _ c.if-not-self.tru
 pub returns-then-no_kind : goal.returns-then-no_kind
 returns-then-no_kind c =
     sym (reason-no-kind _ _ (not-false _ c.if-not-self.false)
-    (sym c.has_kind-no_kind.ensures ∙ not-true _ c.if-no_kind.true))
+    (sym c.has_kind-no_kind.ensures ∙ c.if-no_kind.true))
 
 pub returns-then-below_a : goal.returns-then-below_a
 returns-then-below_a c =
     sym (reason-below-a _ _ (not-false _ c.if-not-self.false)
-    (sym c.has_kind-no_kind.ensures ∙ not-false _ c.if-no_kind.false)
+    (sym c.has_kind-no_kind.ensures ∙ c.if-no_kind.false)
     (sym c.is_below_a-below_a.ensures ∙ c.if-below_a.true))
 
 pub returns-else-below_a : goal.returns-else-below_a

@@ -9,10 +9,10 @@ pub returns-then-value-le-CLOCK_TOP : goal.returns-then-value-le-CLOCK_TOP
 unfolding after_clock clock_answer clock_refusal
 returns-then-value-le-CLOCK_TOP c =
     let fits = le-ltb 281474976710655 c.args.value (omega arith) in
-    (simp fits, simp fits)
+    record { next = simp fits; answer = simp fits }
 
 pub returns-else-value-le-CLOCK_TOP : goal.returns-else-value-le-CLOCK_TOP
 unfolding after_clock clock_answer clock_refusal
 returns-else-value-le-CLOCK_TOP c =
     let above = lt-ltb 281474976710655 c.args.value (omega arith) in
-    (simp above, simp above)
+    record { next = simp above; answer = simp above }

@@ -6,9 +6,12 @@ use Rattle.monitor.proofs.record.Monitor.settings_back.Goals as goal
 
 pub returns-then-s-eq-LENGTH : goal.returns-then-s-eq-LENGTH
 returns-then-s-eq-LENGTH c =
-    settings-written c.args.self c.args.s.now _ _ c.if-s-eq-LENGTH.true
+    let met = settings-written c.args.self c.args.s.now _ _ c.if-s-eq-LENGTH.true
     c.encode-bytes.ensures
-    c.copy.ensures
+    c.copy.ensures in
+    record { bytes = met.0; answer = met.1 }
 
 pub returns-else-s-eq-LENGTH : goal.returns-else-s-eq-LENGTH
-returns-else-s-eq-LENGTH c = settings-refused c.args.self c.args.s.now _ c.if-s-eq-LENGTH.false refl
+returns-else-s-eq-LENGTH c =
+    let met = settings-refused c.args.self c.args.s.now _ c.if-s-eq-LENGTH.false refl in
+    record { bytes = met.0; answer = met.1 }

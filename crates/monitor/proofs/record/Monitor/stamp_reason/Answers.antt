@@ -12,27 +12,27 @@ returns-then-stamps-n c = stamp-reason _ _ _ _ true _ _ _ c.in_window-time.ensur
 pub returns-then-not-bit : goal.returns-then-not-bit
 returns-then-not-bit c =
     stamp-reason _ _ _ _ false false _ _ c.in_window-time.ensures (ne_eqb _ _ c.if-stamps-n.false)
-    (sym c.bit.ensures ∙ not-true _ c.if-not-bit.true)
+    (sym c.bit.ensures ∙ c.if-not-bit.true)
     refl
     refl
 
 pub returns-then-not-larger : goal.returns-then-not-larger
 returns-then-not-larger c =
     stamp-reason _ _ _ _ false true false _ c.in_window-time.ensures (ne_eqb _ _ c.if-stamps-n.false)
-    (sym c.bit.ensures ∙ not-false _ c.if-not-bit.false)
-    (sym c.larger.ensures ∙ not-true _ c.if-not-larger.true)
+    (sym c.bit.ensures ∙ c.if-not-bit.false)
+    (sym c.larger.ensures ∙ c.if-not-larger.true)
     refl
 
 pub returns-then-not-waited : goal.returns-then-not-waited
 returns-then-not-waited c =
     stamp-reason _ _ _ _ false true true false c.in_window-time.ensures (ne_eqb _ _ c.if-stamps-n.false)
-    (sym c.bit.ensures ∙ not-false _ c.if-not-bit.false)
-    (sym c.larger.ensures ∙ not-false _ c.if-not-larger.false)
-    (sym c.waited.ensures ∙ not-true _ c.if-not-waited.true)
+    (sym c.bit.ensures ∙ c.if-not-bit.false)
+    (sym c.larger.ensures ∙ c.if-not-larger.false)
+    (sym c.waited.ensures ∙ c.if-not-waited.true)
 
 pub returns-else-not-waited : goal.returns-else-not-waited
 returns-else-not-waited c =
     stamp-reason _ _ _ _ false true true true c.in_window-time.ensures (ne_eqb _ _ c.if-stamps-n.false)
-    (sym c.bit.ensures ∙ not-false _ c.if-not-bit.false)
-    (sym c.larger.ensures ∙ not-false _ c.if-not-larger.false)
-    (sym c.waited.ensures ∙ not-false _ c.if-not-waited.false)
+    (sym c.bit.ensures ∙ c.if-not-bit.false)
+    (sym c.larger.ensures ∙ c.if-not-larger.false)
+    (sym c.waited.ensures ∙ c.if-not-waited.false)
