@@ -5,7 +5,7 @@
 ghost use Rattle.std.specs.Prelude.{◌≡◌, length};
 ghost use Rattle.text.specs.Claims.{enough};
 
-use libc::{STDERR_FILENO, STDIN_FILENO, STDOUT_FILENO};
+use std::io::{Read, Write};
 
 // No more is needed to list an input, however long it is: `text` claims it of so many bytes (`FirstBytesSuffice`).
 const ROOM: usize = 513;
@@ -18,31 +18,30 @@ fn buffer() -> [u8; ROOM]
 }
 
 // Prints the listing, or says on standard error that it could not.
-fn print(page: &[u8]) {
+fn print<W: Write, E: Write>(page: &[u8], output: &mut W, errors: &mut E) {
     let listing = text::page_listing(page);
     let bytes = listing.bytes;
     let len = listing.len;
-    if !io::write_all(STDOUT_FILENO, &bytes[..len]) {
-        os::fail(b"listing: cannot write");
+    if let Err(why) = output.write_all(&bytes[..len]) {
+        streams::fail_to_write(errors, b"listing: cannot write", why);
     }
 }
 
 // Reads a page and prints its listing.
-fn run() {
+fn run<R: Read, W: Write, E: Write>(input: &mut R, output: &mut W, errors: &mut E) {
     let mut page = buffer();
-    let filled = streams::fill(STDIN_FILENO, &mut page);
+    let filled = streams::fill(input, &mut page);
     let n = filled.n;
-    if filled.failed {
-        os::fail(b"listing: cannot read");
-    } else {
-        print(&page[..n]);
+    match filled.failed {
+        Some(why) => streams::fail(errors, b"listing: cannot read", why),
+        None => print(&page[..n], output, errors),
     }
 }
 
-fn main() {
-    if streams::alone(os::arg_count()) {
-        run();
+fn main(rt: HostRuntime) {
+    if streams::alone(streams::words(&rt)) {
+        run(&mut rt.stdin(), &mut rt.stdout(), &mut rt.stderr());
     } else {
-        io::write_all(STDERR_FILENO, b"usage: listing < PAGE\n");
+        let _ = eprintln!(rt; "usage: listing < PAGE");
     }
 }

@@ -36,7 +36,7 @@ fn met(mut t: Told, s: &[u8], expected: &[u8]) -> Told {
 
 // A block of records, whose first has this number.
 fn block(t: Told, s: &[u8], first: usize, expected: &[u8]) -> Told {
-    let mut out = io::large_buffer();
+    let mut out = streams::large_buffer();
     let m = t.monitor;
     let b = events::replay_block(m, s, first as u64, &mut out);
     let monitor = b.monitor;

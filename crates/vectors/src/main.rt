@@ -12,6 +12,7 @@ mod vector;
 mod verdicts;
 
 use input::Part;
+use std::io::{Read, Write};
 use vector::Kind;
 use verdicts::Verdict;
 
@@ -32,19 +33,19 @@ enum Step {
 }
 
 // A vector's line, for one that does not agree.
-fn complain(name: &[u8], i: usize, what: &[u8]) {
-    io::write_all(1, name);
-    io::write_all(1, b": vector ");
-    io::print_decimal(1, i as u64);
-    io::write_all(1, what);
+fn complain<W: Write>(output: &mut W, name: &[u8], i: usize, what: &[u8]) {
+    let _ = output.write_all(name);
+    let _ = output.write_all(b": vector ");
+    let _ = write!(output, "{i}");
+    let _ = output.write_all(what);
 }
 
 // A group's line.
-fn report(name: &[u8], agreed: usize) {
-    io::write_all(1, name);
-    io::write_all(1, b" ");
-    io::print_decimal(1, agreed as u64);
-    io::write_all(1, b"\n");
+fn report<W: Write>(output: &mut W, name: &[u8], agreed: usize) {
+    let _ = output.write_all(name);
+    let _ = output.write_all(b" ");
+    let _ = write!(output, "{agreed}");
+    let _ = output.write_all(b"\n");
 }
 
 // Whether a name starts with a word.
@@ -71,18 +72,18 @@ fn kind_of(name: &[u8]) -> Kind {
 }
 
 // The vectors of a group: how many agree.
-fn vectors(name: &[u8], count: usize) -> Part {
+fn vectors<R: Read, W: Write>(source: &mut R, output: &mut W, name: &[u8], count: usize) -> Part {
     let kind = kind_of(name);
     let mut agreed = 0;
     let mut i = 0;
     while i < count {
-        match vector::next(kind) {
+        match vector::next(source, kind) {
             Verdict::Agrees => {
                 agreed += 1;
             }
-            Verdict::Differs => complain(name, i, b" differs\n"),
+            Verdict::Differs => complain(output, name, i, b" differs\n"),
             Verdict::Unread => {
-                complain(name, i, b" cannot be read\n");
+                complain(output, name, i, b" cannot be read\n");
                 return Part::Missing;
             }
         }
@@ -92,48 +93,50 @@ fn vectors(name: &[u8], count: usize) -> Part {
 }
 
 // A group, after its first byte.
-fn group() -> Step {
+fn group<R: Read, W: Write>(source: &mut R, output: &mut W) -> Step {
     let mut letters = [0; 255];
-    let Part::Read(n) = input::list(1, 1, &mut letters) else {
+    let Part::Read(n) = input::list(source, 1, 1, &mut letters) else {
         return Step::Unread;
     };
     let name = input::first(&letters, n);
-    let Part::Read(count) = input::number(4) else {
+    let Part::Read(count) = input::number(source, 4) else {
         return Step::Unread;
     };
-    let Part::Read(agreed) = vectors(name, count) else {
+    let Part::Read(agreed) = vectors(source, output, name, count) else {
         return Step::Unread;
     };
-    report(name, agreed);
+    report(output, name, agreed);
     Step::Group
 }
 
 // The end, after its byte: nothing follows.
-fn end() -> Step {
-    match input::number(1) {
+fn end<R: Read>(source: &mut R) -> Step {
+    match input::number(source, 1) {
         Part::Read(_) => Step::Unread,
         Part::Missing => Step::End,
     }
 }
 
 // The next group, or the end.
-fn advance() -> Step {
-    let Part::Read(first) = input::number(1) else {
+fn advance<R: Read, W: Write>(source: &mut R, output: &mut W) -> Step {
+    let Part::Read(first) = input::number(source, 1) else {
         return Step::Unread;
     };
     if first == GROUP {
-        group()
+        group(source, output)
     } else if first == END {
-        end()
+        end(source)
     } else {
         Step::Unread
     }
 }
 
-fn main() {
+fn main(rt: HostRuntime) {
+    let mut source = rt.stdin();
+    let mut output = rt.stdout();
     let mut turn = 0;
     while turn < TURNS {
-        match advance() {
+        match advance(&mut source, &mut output) {
             Step::Group => {
                 turn += 1;
             }
@@ -141,5 +144,5 @@ fn main() {
             Step::Unread => break,
         }
     }
-    io::write_all(1, b"the file ended early, or is not one of vectors\n");
+    let _ = output.write_all(b"the file ended early, or is not one of vectors\n");
 }

@@ -5,6 +5,7 @@ use crate::input::Part;
 use crate::verdicts::Verdict;
 use crate::{compare, input, verdicts};
 use logpage::{Answer, DebugLog, LogPage, Reading, Settings, Window};
+use std::io::Read;
 
 // The bytes of a reading's fields: reference/src/vectors.rs has their order.
 const FIELDS: usize = 389;
@@ -114,20 +115,20 @@ fn lists_as(page: &[u8], expected: &[u8]) -> bool {
 }
 
 // The next page vector.
-pub fn next() -> Verdict {
-    let mut bytes = io::large_buffer();
-    let Part::Read(length) = input::list(2, 1, &mut bytes) else {
+pub fn next<R: Read>(source: &mut R) -> Verdict {
+    let mut bytes = streams::large_buffer();
+    let Part::Read(length) = input::list(source, 2, 1, &mut bytes) else {
         return Verdict::Unread;
     };
-    let Part::Read(refusal) = input::number(1) else {
+    let Part::Read(refusal) = input::number(source, 1) else {
         return Verdict::Unread;
     };
     let mut expected = [0; FIELDS];
-    if !input::fill(&mut expected) {
+    if !input::fill(source, &mut expected) {
         return Verdict::Unread;
     }
-    let mut lines = io::buffer();
-    let Part::Read(line_bytes) = input::list(2, 1, &mut lines) else {
+    let mut lines = streams::buffer();
+    let Part::Read(line_bytes) = input::list(source, 2, 1, &mut lines) else {
         return Verdict::Unread;
     };
     let page = input::first(&bytes, length);

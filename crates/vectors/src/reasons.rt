@@ -5,6 +5,7 @@ use crate::input::Part;
 use crate::verdicts::Verdict;
 use crate::{blocks, compare, input, verdicts};
 use events::{Explained, Question};
+use std::io::Read;
 
 // The bytes of a question: how many bytes of the number are there, the number, the length of what is printed, and that.
 const QUESTION: usize = 17;
@@ -76,13 +77,13 @@ fn all_answer(file: &[u8], questions: &[u8]) -> bool {
 }
 
 // The next reasons vector.
-pub fn next() -> Verdict {
+pub fn next<R: Read>(source: &mut R) -> Verdict {
     let mut file = input::file_buffer();
-    let Part::Read(bytes) = input::list(4, 1, &mut file) else {
+    let Part::Read(bytes) = input::list(source, 4, 1, &mut file) else {
         return Verdict::Unread;
     };
-    let mut questions = io::large_buffer();
-    let Part::Read(question_bytes) = input::list(2, QUESTION, &mut questions) else {
+    let mut questions = streams::large_buffer();
+    let Part::Read(question_bytes) = input::list(source, 2, QUESTION, &mut questions) else {
         return Verdict::Unread;
     };
     let asked = input::first(&questions, question_bytes);

@@ -4,6 +4,7 @@ use crate::input::Part;
 use crate::verdicts::Verdict;
 use crate::{compare, input, pages, play, reasons, verdicts};
 use monitor::{Answer, Monitor, WindowChoice};
+use std::io::Read;
 
 // What a vector is of.
 #[derive(Clone, Copy)]
@@ -15,12 +16,12 @@ pub enum Kind {
 }
 
 // The page that both monitors show, into the buffer of the vector.
-fn page(m: Monitor, single: Monitor) -> Verdict {
-    let Part::Read(n) = input::number(2) else {
+fn page<R: Read>(source: &mut R, m: Monitor, single: Monitor) -> Verdict {
+    let Part::Read(n) = input::number(source, 2) else {
         return Verdict::Unread;
     };
     let mut bytes = [0; 512];
-    let Part::Read(refusal) = input::answer(&mut bytes) else {
+    let Part::Read(refusal) = input::answer(source, &mut bytes) else {
         return Verdict::Unread;
     };
     let as_a_whole = verdicts::judged(compare::page(m, n, refusal, &bytes));
@@ -29,12 +30,12 @@ fn page(m: Monitor, single: Monitor) -> Verdict {
 }
 
 // The settings that both monitors give back, into the buffer of the vector.
-fn settings_back(m: Monitor, single: Monitor) -> Verdict {
-    let Part::Read(n) = input::number(2) else {
+fn settings_back<R: Read>(source: &mut R, m: Monitor, single: Monitor) -> Verdict {
+    let Part::Read(n) = input::number(source, 2) else {
         return Verdict::Unread;
     };
     let mut bytes = [0; 13];
-    let Part::Read(refusal) = input::answer(&mut bytes) else {
+    let Part::Read(refusal) = input::answer(source, &mut bytes) else {
         return Verdict::Unread;
     };
     let as_a_whole = verdicts::judged(compare::settings_back(m, n, refusal, &bytes));
@@ -43,9 +44,9 @@ fn settings_back(m: Monitor, single: Monitor) -> Verdict {
 }
 
 // A window's counts below A, in both monitors.
-fn below_a(m: Monitor, single: Monitor, window: WindowChoice) -> Verdict {
+fn below_a<R: Read>(source: &mut R, m: Monitor, single: Monitor, window: WindowChoice) -> Verdict {
     let mut bytes = [0; compare::BELOW_A_BYTES];
-    if !input::fill(&mut bytes) {
+    if !input::fill(source, &mut bytes) {
         return Verdict::Unread;
     }
     let as_a_whole = verdicts::judged(compare::below_a(m, window, &bytes));
@@ -54,38 +55,38 @@ fn below_a(m: Monitor, single: Monitor, window: WindowChoice) -> Verdict {
 }
 
 // An event file by blocks, and the lines that are expected of it; no lines agree where they cannot be read.
-fn by_blocks(file: &[u8], presets: &[u8]) -> Told {
-    let mut lines = io::large_buffer();
-    let Part::Read(n) = input::list(4, 1, &mut lines) else {
+fn by_blocks<R: Read>(source: &mut R, file: &[u8], presets: &[u8]) -> Told {
+    let mut lines = streams::large_buffer();
+    let Part::Read(n) = input::list(source, 4, 1, &mut lines) else {
         return play::replayed(file, presets, b"?");
     };
     play::replayed(file, presets, input::first(&lines, n))
 }
 
 // An event vector.
-fn events() -> Verdict {
+fn events<R: Read>(source: &mut R) -> Verdict {
     let mut file = input::file_buffer();
-    let Part::Read(bytes) = input::list(4, 1, &mut file) else {
+    let Part::Read(bytes) = input::list(source, 4, 1, &mut file) else {
         return Verdict::Unread;
     };
-    let mut presets = io::buffer();
-    let Part::Read(preset_bytes) = input::list(1, 9, &mut presets) else {
+    let mut presets = streams::buffer();
+    let Part::Read(preset_bytes) = input::list(source, 1, 9, &mut presets) else {
         return Verdict::Unread;
     };
-    let mut answers = io::large_buffer();
-    let Part::Read(answer_bytes) = input::list(2, 2, &mut answers) else {
+    let mut answers = streams::large_buffer();
+    let Part::Read(answer_bytes) = input::list(source, 2, 2, &mut answers) else {
         return Verdict::Unread;
     };
     let records = input::first(&file, bytes);
     let before = input::first(&presets, preset_bytes);
     let a = play::answered(records, before, input::first(&answers, answer_bytes));
-    let t = by_blocks(records, before);
+    let t = by_blocks(source, records, before);
     let m = t.monitor;
     let single = a.monitor;
-    let shown = page(m, single);
-    let given = settings_back(m, single);
-    let active = below_a(m, single, WindowChoice::Active);
-    let last = below_a(m, single, WindowChoice::Static);
+    let shown = page(source, m, single);
+    let given = settings_back(source, m, single);
+    let active = below_a(source, m, single, WindowChoice::Active);
+    let last = below_a(source, m, single, WindowChoice::Static);
     let read = verdicts::both(verdicts::both(shown, given), verdicts::both(active, last));
     verdicts::both(verdicts::judged(t.agrees & a.agrees), read)
 }
@@ -126,19 +127,19 @@ fn configure_patched(s: &mut [u8], patches: &[u8], refusal: usize, bytes: &[u8])
 }
 
 // A settings vector.
-fn settings() -> Verdict {
-    let Part::Read(n) = input::number(2) else {
+fn settings<R: Read>(source: &mut R) -> Verdict {
+    let Part::Read(n) = input::number(source, 2) else {
         return Verdict::Unread;
     };
-    let mut patches = io::buffer();
-    let Part::Read(patch_bytes) = input::list(1, 3, &mut patches) else {
+    let mut patches = streams::buffer();
+    let Part::Read(patch_bytes) = input::list(source, 1, 3, &mut patches) else {
         return Verdict::Unread;
     };
     let mut bytes = [0; 13];
-    let Part::Read(refusal) = input::answer(&mut bytes) else {
+    let Part::Read(refusal) = input::answer(source, &mut bytes) else {
         return Verdict::Unread;
     };
-    let mut s = io::large_buffer();
+    let mut s = streams::large_buffer();
     if n <= compare::LONGEST {
         let given = input::first(&patches, patch_bytes);
         verdicts::judged(configure_patched(&mut s[0..n], given, refusal, &bytes))
@@ -148,11 +149,11 @@ fn settings() -> Verdict {
 }
 
 // The next vector.
-pub fn next(kind: Kind) -> Verdict {
+pub fn next<R: Read>(source: &mut R, kind: Kind) -> Verdict {
     match kind {
-        Kind::Events => events(),
-        Kind::Settings => settings(),
-        Kind::Pages => pages::next(),
-        Kind::Reasons => reasons::next(),
+        Kind::Events => events(source),
+        Kind::Settings => settings(source),
+        Kind::Pages => pages::next(source),
+        Kind::Reasons => reasons::next(source),
     }
 }

@@ -1,15 +1,13 @@
 -- `end_line`: a refused line where bytes are left over, and none else.
-use Rattle.std.proofs.Common.{sym, ap, ◌∙◌, rules}
-use Rattle.rules.specs.Answers.{says_answer}
 use Rattle.events.proofs.blocks.Laws.{some-line, none-line}
 use Rattle.events.proofs.blocks.end_line.Goals as goal
 
 pub returns-in-Refused : goal.returns-in-Refused
 returns-in-Refused c =
-    let refused = sym (ap says_answer c.number-1.given.1) ∙ c.left_over.ensures in
+    let refused = c.in-Refused.ensures in
     record { value = some-line _ _ _ _ c.refused_record.ensures.value refused; len_in_bounds = c.refused_record.ensures.len_in_bounds }
 
 pub returns-in-Done : goal.returns-in-Done
 returns-in-Done c =
-    let done = sym (ap says_answer c.enum_told-1.given.1) ∙ c.left_over.ensures in
+    let done = c.in-Done.ensures in
     record { value = none-line _ _ _ c.no_line.ensures.value done; len_in_bounds = c.no_line.ensures.len_in_bounds }

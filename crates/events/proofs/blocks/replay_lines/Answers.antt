@@ -1,9 +1,9 @@
 -- `replay_lines`: before each run, the monitor is what the records before it leave, and their lines are stored.
-use Rattle.std.proofs.Common.{◌+◌, ◌-◌, ◌*◌, sym, refl, ap, ◌∙◌, arith, rules}
+use Rattle.std.proofs.Common.{◌+◌, ◌*◌, sym, refl, ap, ◌∙◌, arith, rules}
 use borrow.Author.Rules.{part_to_end}
 use Rattle.monitor.specs.Calls.{play_from}
 use Rattle.text.proofs.Storing.{same-room}
-use Rattle.events.specs.Files.{whole_records, calls_before, says_halt}
+use Rattle.events.specs.Files.{calls_before, says_halt}
 use Rattle.events.proofs.files.Laws.{Replayed, skipped, replayed}
 use Rattle.events.proofs.blocks.Laws.{Told, told_none, told_line, told-all}
 use Rattle.events.proofs.blocks.replay_lines.Goals.{After-slice_known-in-Refused-1, In-Refused}
@@ -17,21 +17,22 @@ loop-index-init c = ((search rules, refl), told_none _ _ _)
 past :
     (c : goal.In-Refused) →
     Replayed c.args.m c.args.s.now c.run-stop.result.monitor
-    (c.loop-index.i + c.halt-1.given.0.0 + 1)
+    (c.loop-index.i + c.in-Refused.index + 1)
 past c =
-    let e = rw (part_to_end _ (16 * c.loop-index.i)) at c.run-stop.ensures in
-    skipped _ _ _ _ c.loop-index.i _ c.loop-index.invariant.0 (e.0, sym (ap says_halt c.halt-1.given.1) ∙ e.1)
+    let monitor = rw (part_to_end _ (16 * c.loop-index.i)) at c.run-stop.ensures.monitor in
+    let halt = rw (part_to_end _ (16 * c.loop-index.i)) at c.run-stop.ensures.halt in
+    skipped _ _ _ _ c.loop-index.i _ c.loop-index.invariant.0 (monitor, sym (ap says_halt c.in-Refused.is) ∙ halt)
 
 -- and its line
 line :
     (c : goal.After-slice_known-in-Refused-1) →
-    Told c.args.first c.args.s.now c.args.out.now c.put_line-len.new.0
-    (c.loop-index.i + c.halt-1.given.0.0 + 1)
+    Told c.args.first c.args.s.now c.args.out.now c.put_line-len.new.out
+    (c.loop-index.i + c.in-Refused.index + 1)
     (c.loop-index.len + c.put_line-len.result)
 line c =
     let e = rw (part_to_end _ (16 * c.loop-index.i)) at c.run-stop.ensures.halt in
-    let stored = rw c.wrapping_add_u64-record.ensures at c.put_line-len.ensures in
-    told_line _ _ _ _ _ c.loop-index.i _ _ _ c.loop-index.invariant.0.0 c.loop-index.invariant.1 (sym (ap says_halt c.halt-1.given.1) ∙ e)
+    let stored = rw c.wrapping_add_u64-record.ensures.value at c.put_line-len.ensures in
+    told_line _ _ _ _ _ c.loop-index.i _ _ _ c.loop-index.invariant.0.0 c.loop-index.invariant.1 (sym (ap says_halt c.in-Refused.is) ∙ e)
     stored
     (same-room stored)
 
@@ -58,9 +59,10 @@ shape_of-out c = c.loop-index.invariant.1.room
 
 pub returns : goal.returns
 returns c =
-    let e = rw (part_to_end _ (16 * c.loop-index.i)) at c.run-stop.ensures in
-    let end = sym (ap says_halt c.enum_told-1.given.1) ∙ e.1 in
+    let monitor = rw (part_to_end _ (16 * c.loop-index.i)) at c.run-stop.ensures.monitor in
+    let halt = rw (part_to_end _ (16 * c.loop-index.i)) at c.run-stop.ensures.halt in
+    let end = sym (ap says_halt c.in-End.is) ∙ halt in
     record {
-      monitor = replayed _ _ _ _ c.loop-index.i c.loop-index.invariant.0 (e.0, end);
+      monitor = replayed _ _ _ _ c.loop-index.i c.loop-index.invariant.0 (monitor, end);
       lines = told-all _ _ _ _ c.loop-index.i _ c.loop-index.invariant.0.0 c.loop-index.invariant.1 end c.requires;
     }

@@ -1,8 +1,8 @@
 -- `replay`: before each run, the monitor is what the records before it leave.
-use Rattle.std.proofs.Common.{◌+◌, ◌-◌, ◌*◌, sym, refl, ap, ◌∙◌, arith, rules}
+use Rattle.std.proofs.Common.{◌+◌, ◌*◌, sym, refl, ap, ◌∙◌, arith, rules}
 use borrow.Author.Rules.{part_to_end}
 use Rattle.monitor.specs.Calls.{play_from}
-use Rattle.events.specs.Files.{whole_records, calls_before, says_halt}
+use Rattle.events.specs.Files.{calls_before, says_halt}
 use Rattle.events.proofs.files.Laws.{Replayed, skipped, replayed}
 use Rattle.events.proofs.files.replay.Goals.{In-Refused}
 use Rattle.events.proofs.files.replay.Goals as goal
@@ -17,10 +17,11 @@ past :
     Replayed c.args.m
     c.args.s.now
     c.run-stop.result.monitor
-    (c.loop-index.i + c.halt-1.given.0.0 + 1)
+    (c.loop-index.i + c.in-Refused.index + 1)
 past c =
-    let e = rw (part_to_end _ (16 * c.loop-index.i)) at c.run-stop.ensures in
-    skipped _ _ _ _ c.loop-index.i _ c.loop-index.invariant (e.0, sym (ap says_halt c.halt-1.given.1) ∙ e.1)
+    let monitor = rw (part_to_end _ (16 * c.loop-index.i)) at c.run-stop.ensures.monitor in
+    let halt = rw (part_to_end _ (16 * c.loop-index.i)) at c.run-stop.ensures.halt in
+    skipped _ _ _ _ c.loop-index.i _ c.loop-index.invariant (monitor, sym (ap says_halt c.in-Refused.is) ∙ halt)
 
 pub overflow_add-i : goal.overflow_add-i
 overflow_add-i c = omega (arith, (past (goal.at.overflow_add-i c).In-Refused).0)
@@ -36,5 +37,6 @@ loop-index-preserved c = past (goal.at.loop-index-preserved c).In-Refused
 
 pub returns : goal.returns
 returns c =
-    let e = rw (part_to_end _ (16 * c.loop-index.i)) at c.run-stop.ensures in
-    replayed _ _ _ _ c.loop-index.i c.loop-index.invariant (e.0, sym (ap says_halt c.enum_told-1.given.1) ∙ e.1)
+    let monitor = rw (part_to_end _ (16 * c.loop-index.i)) at c.run-stop.ensures.monitor in
+    let halt = rw (part_to_end _ (16 * c.loop-index.i)) at c.run-stop.ensures.halt in
+    replayed _ _ _ _ c.loop-index.i c.loop-index.invariant (monitor, sym (ap says_halt c.in-End.is) ∙ halt)

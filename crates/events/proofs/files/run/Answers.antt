@@ -1,9 +1,8 @@
 -- `run`: before each record, none was refused and the monitor is what the records before it leave.
-use Rattle.std.proofs.Common.{◌+◌, ◌-◌, sym, ap, ◌∙◌, arith, rules}
+use Rattle.std.proofs.Common.{◌+◌, sym, ap, ◌∙◌, arith, rules}
 use Rattle.records.specs.Records.{says_record}
-use Rattle.events.specs.Files.{whole_records}
 use Rattle.records.proofs.Laws.{refusal-named, let_through}
-use Rattle.events.proofs.files.Laws.{Ran, the-record, behind, few-behind, started, went_on}
+use Rattle.events.proofs.files.Laws.{the-record, behind, few-behind, started, went_on}
 use Rattle.events.proofs.files.Laws.{ran-far, stopped, ended}
 use Rattle.events.proofs.files.run.Goals as goal
 
@@ -14,7 +13,7 @@ pub returns-in-Refused : goal.returns-in-Refused
 returns-in-Refused c =
     let s =
     stopped _ _ _ _ c.loop-i.i _ _ c.loop-i.invariant (the-record _ c.loop-i.i) c.apply-o.ensures.next
-    (refusal-named _ _ _ (sym (ap says_record c.answer-1.given.1) ∙ c.apply-o.ensures.answer))
+    (refusal-named _ _ _ (sym (ap says_record c.in-Refused.is) ∙ c.apply-o.ensures.answer))
     (search rules)
     in
     record { monitor = c.refused_at.ensures.monitor ∙ s.0; halt = c.refused_at.ensures.halt ∙ s.1 }
@@ -23,14 +22,14 @@ pub overflow_add-i-in-loop-i : goal.overflow_add-i-in-loop-i
 overflow_add-i-in-loop-i c =
     omega (
       arith,
-      few-behind c.args.s.now c.loop-i.i _ (search rules) c.stretch-quick.ensures.records.0,
+      few-behind c.args.s.now c.loop-i.i _ (search rules) c.stretch-quick.ensures.records,
     )
 
 pub loop-i-smaller : goal.loop-i-smaller
 loop-i-smaller c =
     omega (
       arith,
-      few-behind c.args.s.now c.loop-i.i _ (search rules) c.stretch-quick.ensures.records.0,
+      few-behind c.args.s.now c.loop-i.i _ (search rules) c.stretch-quick.ensures.records,
     )
 
 pub loop-i-preserved : goal.loop-i-preserved
@@ -38,11 +37,13 @@ loop-i-preserved c =
     let one =
     went_on _ _ _ _ c.loop-i.i _ c.loop-i.invariant (the-record _ c.loop-i.i) c.apply-o.ensures.next
     (refusal-named _ _ _ c.apply-o.ensures.answer ∙
-    let_through c.apply-o.result.answer c.in-Refused.keys2)
+    let_through c.apply-o.result.answer c.in_default.not-Refused)
     (search rules)
     in
-    let far = rw (behind c.args.s.now c.loop-i.i (search rules)) at c.stretch-quick.ensures in
-    ran-far _ _ _ _ (c.loop-i.i + 1) _ one far.0 far.1.0 far.1.1
+    let monitor = rw (behind c.args.s.now c.loop-i.i (search rules)) at c.stretch-quick.ensures.monitor in
+    let records = rw (behind c.args.s.now c.loop-i.i (search rules)) at c.stretch-quick.ensures.records in
+    let accepted = rw (behind c.args.s.now c.loop-i.i (search rules)) at c.stretch-quick.ensures.accepted in
+    ran-far _ _ _ _ (c.loop-i.i + 1) _ one monitor records accepted
 
 pub returns : goal.returns
 returns c =

@@ -1,6 +1,6 @@
 -- `stretch`: the monitor with the active window that is kept apart is what the records so far leave.
 use mathlib.Core.Option.{some}
-use Rattle.std.proofs.Common.{◌≡◌, ℕ, ◌+◌, ◌-◌, ◌<◌, get_or, sym, refl, ◌∙◌, arith, rules}
+use Rattle.std.proofs.Common.{◌≡◌, ℕ, ◌+◌, ◌<◌, get_or, sym, refl, ◌∙◌, arith, rules}
 use Rattle.monitor.specs.Calls.{completion, play_from}
 use Rattle.records.specs.Records.{call_of}
 use Rattle.events.specs.Files.{record_at, calls_before}
@@ -9,7 +9,7 @@ use Rattle.batch.specs.Tally.{code_of}
 use Rattle.batch.proofs.Counts.{few-counters}
 use Rattle.records.proofs.Laws.{completion-call}
 use Rattle.events.proofs.files.Laws.{the-record, sixteen}
-use Rattle.events.proofs.stretch.Laws.{Stretched, stretch-ends, added, begins, one-counted, one-stamped}
+use Rattle.events.proofs.stretch.Laws.{stretch-ends, added, begins, one-counted, one-stamped}
 use Rattle.events.proofs.stretch.Laws.{time-went-on}
 use Rattle.events.proofs.stretch.stretch.Goals.{After-code, After-counter_at-n, In-loop-i}
 use Rattle.events.proofs.stretch.stretch.Goals as goal
@@ -23,9 +23,9 @@ loop-i-init c =
       in-force = refl;
       first-places = c.bucket_places-buckets.ensures;
       places = c.kind_places-kinds.ensures;
-      bound = λ place h. rw c.active-a.ensures.window (c.active-a.ensures.bounds.0 place h);
+      bound = λ place h. rw c.active-a.ensures.window (c.active-a.ensures.bounds place h);
       sizes = (search rules, search rules, search rules);
-      room = λ place. omega (arith, c.active-a.ensures.bounds.1 place);
+      room = λ place. omega (arith, c.active-a.ensures.top place);
       accepted = λ j h. absurd (omega arith);
       played = (search rules, c.active-a.ensures.window);
     }
@@ -47,11 +47,10 @@ pub bounds-buckets-bucket : goal.bounds-buckets-bucket
 bounds-buckets-bucket c = omega (arith, bucket-few _ _ _ c.bucket.ensures)
 
 pub code-requires : goal.code-requires
-code-requires c =
-    (
-      sixteen _ c.loop-i.i (omega (arith, c.loop-i-test.true, c.loop-i.invariant.within)),
-      sym c.is_completion.ensures ∙ c.if-is_completion.true,
-    )
+code-requires c = (
+  sixteen _ c.loop-i.i (omega (arith, c.loop-i-test.true, c.loop-i.invariant.within)),
+  sym c.is_completion.ensures ∙ c.if-is_completion.true,
+)
 
 -- the code is that of the record's command
 its-code :
@@ -79,10 +78,7 @@ its-call c =
 
 -- the place, and that the tables have it
 abbrev its-place : goal.After-code → ℕ
-its-place c =
-    let tables = c.before.before.before.before.before.before.before.before.before in
-    get_or tables.before.bucket-places.result c.before.bucket.result 0 +
-    get_or tables.kind-places.result c.code.result 0
+its-place c = get_or c.bucket_places-buckets.result c.bucket.result 0 + get_or c.kind_places-kinds.result c.code.result 0
 
 in_table : (c : goal.After-code) → its-place c < 28
 in_table c =
@@ -105,8 +101,7 @@ bounds-a-place c = omega (arith, in_table (goal.at.bounds-a-place c).After-code)
 another :
     (c : goal.After-code) →
     get_or c.loop-i.a.counts (its-place c) 0 + 1 < 18446744073709551616
-another c =
-    omega (arith, c.loop-i.invariant.room (its-place c), one-more-fits c.BEFORE)
+another c = omega (arith, c.loop-i.invariant.room (its-place c), c.loop-i-test.true, c.loop-i.invariant.within)
 
 pub offset_bounds-a-place-then-c-a : goal.offset_bounds-a-place-then-c-a
 offset_bounds-a-place-then-c-a c = omega (arith, in_table (goal.at.offset_bounds-a-place-then-c-a c).After-code)
@@ -129,7 +124,7 @@ loop-i-preserved-then-c-a c =
 
 -- the counter that is looked at
 a-counter : (c : goal.After-counter_at-n) → c.counter_at-n.result < 12
-a-counter c = omega (arith, c.counter_at-n.ensures, few-counters (its-place c.BEFORE))
+a-counter c = omega (arith, c.counter_at-n.ensures, few-counters (get_or c.bucket_places-buckets.result c.bucket.result 0 + get_or c.kind_places-kinds.result c.code.result 0))
 
 pub offset_bounds-a-n : goal.offset_bounds-a-n
 offset_bounds-a-n c = omega (arith, a-counter (goal.at.offset_bounds-a-n c).After-counter_at-n)

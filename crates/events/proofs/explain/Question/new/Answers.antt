@@ -1,8 +1,7 @@
 -- `Question::new`: four bytes are loaded whole, and fit.
-use Rattle.std.proofs.Common.{arith, rules}
+use Rattle.std.proofs.Common.{arith}
 use Rattle.events.proofs.explain.Laws.{asks}
 use Rattle.records.proofs.Laws.{loaded, four-fit}
-use Rattle.events.proofs.explain.Question.new.Goals.{After-load-before}
 use Rattle.events.proofs.explain.Question.new.Goals as goal
 
 pub overflow_cast-before : goal.overflow_cast-before
@@ -15,5 +14,5 @@ overflow_cast-before c =
 
 pub returns : goal.returns
 returns c =
-    let number = rw (c.first_bytes.ensures, loaded c.args.number.now 4 (omega arith)) (goal.at.returns c).After-load-before c.load-before.ensures in
+    let number = rw (c.first_bytes.ensures, loaded c.args.number.now 4 (omega arith)) at c.load-before.ensures in
     record { next = asks _ _ _ c.new-monitor.ensures number; said = c.number_said-said.ensures }

@@ -1,16 +1,15 @@
 -- `Question::read`: the part has the record, or ends before it.
-use Rattle.std.proofs.Common.{◌∙◌, rules}
+use Rattle.std.proofs.Common.{◌∙◌}
 use Rattle.events.proofs.explain.Laws.{part-reached, part-passed}
 use Rattle.events.proofs.files.Laws.{the-record}
-use Rattle.events.proofs.explain.Question.read.Goals.{After-replay-monitor}
 use Rattle.events.proofs.explain.Question.read.Goals as goal
 
 pub returns-then-before-whole : goal.returns-then-before-whole
 returns-then-before-whole c =
     let reached =
-    part-reached _ _ _ (rw c.first_bytes.ensures (goal.at.returns-then-before-whole c).After-replay-monitor c.replay-monitor.ensures) c.if-before-whole.true
+    part-reached _ _ _ (rw c.first_bytes.ensures at c.replay-monitor.ensures) c.if-before-whole.true
     in
-    record { next = reached.0; said = rw (the-record _ _) (goal.at.returns-then-before-whole c).After-replay-monitor c.record_said-said.ensures ∙ reached.1 }
+    record { next = reached.0; said = rw (the-record _ _) at c.record_said-said.ensures ∙ reached.1 }
 
 pub returns-else-before-whole : goal.returns-else-before-whole
 returns-else-before-whole c =
