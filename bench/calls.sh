@@ -6,7 +6,7 @@
 set -euo pipefail
 top=$(cd "$(dirname "$0")/.." && pwd)
 bench=$top/bench
-archive=$top/target/staticlib/liblatency_monitor.a
+archive=$top/crates/latency_monitor/out/liblatency_monitor.a
 ROUNDS=${1:-31}
 . "$bench/sides.sh"
 
@@ -14,7 +14,7 @@ folder=$(mktemp -d)
 trap 'rm -rf "$folder"' EXIT
 cd "$folder"
 
-(cd "$top" && rt staticlib latency_monitor) > say 2>&1 || { cat say >&2; exit 1; }
+(cd "$top/crates/latency_monitor" && rt lib) > say 2>&1 || { cat say >&2; exit 1; }
 
 # loops SIDE TITLE FLAG..: a side's loops, placed alike in memory for all sides.
 loops() {

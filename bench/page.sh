@@ -23,9 +23,9 @@ folder=$(mktemp -d)
 trap 'rm -rf "$folder"' EXIT
 cd "$folder"
 
-(cd "$top" && rt check page explain) > say 2>&1 || { cat say >&2; exit 1; }
+(cd "$top/crates/page" && rt run && cd ../explain && rt run) < /dev/null > say 2>&1 || { cat say >&2; exit 1; }
 cargo build --release --quiet --offline --manifest-path "$top/reference/Cargo.toml" --target-dir target
-declare -A programs=([page]=$top/target/bin/page [explain]=$top/target/bin/explain) titles
+declare -A programs=([page]=$top/crates/page/out/page [explain]=$top/crates/explain/out/explain) titles
 
 # Each compiler sees the whole program. Without its linker clang has no -flto, and page.c is one unit with the monitor.
 declare -A whole=([gcc]=-flto [clang]=)

@@ -5,14 +5,22 @@
 # Fails if the archive has data of its own.
 set -euo pipefail
 top=$(cd "$(dirname "$0")/.." && pwd)
-archive=$top/target/staticlib/liblatency_monitor.a
-programs=("$top"/target/bin/{page,listing,explain,vectors})
+archive=$top/crates/latency_monitor/out/liblatency_monitor.a
+programs=("$top"/crates/{page/out/page,listing/out/listing,explain/out/explain,vectors/out/vectors})
 
 folder=$(mktemp -d)
 trap 'rm -rf "$folder"' EXIT
 cd "$folder"
 
-(cd "$top" && rt staticlib latency_monitor && rt check "${programs[@]##*/}") > say 2>&1 || { cat say >&2; exit 1; }
+# built: proves and builds the archive and the programs, which `rt run` also runs, here on no input.
+built() {
+    local program
+    (cd "$top/crates/latency_monitor" && rt lib) || return
+    for program in "${programs[@]##*/}"; do
+        (cd "$top/crates/$program" && rt run < /dev/null) || return
+    done
+}
+built > say 2>&1 || { cat say >&2; exit 1; }
 for level in O2 O3; do
     gcc "-$level" -I "$top/include" -c -o "in_place_$level.o" "$top/bench/in_place.c"
 done

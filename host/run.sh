@@ -10,22 +10,27 @@ top=$(cd "$(dirname "$0")/.." && pwd)
 export CARGO_TARGET_DIR=$top/target/host
 mkdir -p "$CARGO_TARGET_DIR"
 
+# program NAME: proves and builds it, as `rt run` does before it runs it, here on no input.
+program() {
+    (cd "$top/crates/$1" && rt run < /dev/null > /dev/null)
+}
+
 if [ -z "${LATENCY_MONITOR_LIB:-}" ]; then
-    (cd "$top" && rt staticlib latency_monitor)
+    (cd "$top/crates/latency_monitor" && rt lib)
 fi
 if [ -z "${LATENCY_MONITOR_PAGE:-}" ]; then
-    (cd "$top" && rt check page)
+    program page
 fi
 if [ -z "${LATENCY_MONITOR_EXPLAIN:-}" ]; then
-    (cd "$top" && rt check explain)
+    program explain
 fi
 if [ -z "${LATENCY_MONITOR_LISTING:-}" ]; then
-    (cd "$top" && rt check listing)
+    program listing
 fi
-LATENCY_MONITOR_LIB=$(realpath "${LATENCY_MONITOR_LIB:-$top/target/staticlib}")
-LATENCY_MONITOR_PAGE=$(realpath "${LATENCY_MONITOR_PAGE:-$top/target/bin/page}")
-LATENCY_MONITOR_EXPLAIN=$(realpath "${LATENCY_MONITOR_EXPLAIN:-$top/target/bin/explain}")
-LATENCY_MONITOR_LISTING=$(realpath "${LATENCY_MONITOR_LISTING:-$top/target/bin/listing}")
+LATENCY_MONITOR_LIB=$(realpath "${LATENCY_MONITOR_LIB:-$top/crates/latency_monitor/out}")
+LATENCY_MONITOR_PAGE=$(realpath "${LATENCY_MONITOR_PAGE:-$top/crates/page/out/page}")
+LATENCY_MONITOR_EXPLAIN=$(realpath "${LATENCY_MONITOR_EXPLAIN:-$top/crates/explain/out/explain}")
+LATENCY_MONITOR_LISTING=$(realpath "${LATENCY_MONITOR_LISTING:-$top/crates/listing/out/listing}")
 export LATENCY_MONITOR_LIB LATENCY_MONITOR_PAGE LATENCY_MONITOR_EXPLAIN LATENCY_MONITOR_LISTING
 archive=$LATENCY_MONITOR_LIB/liblatency_monitor.a
 header=$top/include/latency_monitor.h

@@ -1,4 +1,4 @@
-//! Links the archive that `rt staticlib latency_monitor` writes.
+//! Links the archive that `rt lib` writes in crates/latency_monitor.
 
 use std::env;
 use std::path::{Path, PathBuf};
@@ -13,7 +13,7 @@ fn main() {
     let name = archive.display();
     println!("cargo::rerun-if-changed={name}");
     if !archive.is_file() {
-        println!("cargo::error=no {name}: run `rt staticlib latency_monitor`, or name its folder in {FOLDER}");
+        println!("cargo::error=no {name}: run `rt lib` in crates/latency_monitor, or name its folder in {FOLDER}");
         return;
     }
     println!("cargo::rustc-link-search=native={}", folder.display());
@@ -21,5 +21,5 @@ fn main() {
 }
 
 fn repositorys() -> PathBuf {
-    Path::new(env!("CARGO_MANIFEST_DIR")).join("../../target/staticlib")
+    Path::new(env!("CARGO_MANIFEST_DIR")).join("../../crates/latency_monitor/out")
 }

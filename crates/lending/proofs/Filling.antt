@@ -3,7 +3,7 @@
 use mathlib.Core.Path.{◌≡◌, refl, ap}
 use mathlib.Core.List.{[], ◌∷◌, List}
 use seplogic.Ra.Ura.{Ura}
-use mir.Syntax.{Name, Fn, named, mut, ty_unit, ty_ref, place, deref, copy, opd_unit, rv_opd, assign, call, seq, return}
+use mir.Syntax.{Callee, Fn, named, mut, ty_unit, ty_ref, place, deref, copy, opd_unit, rv_opd, assign, call, seq, return}
 use mir.Val.{Val, vptr, vunit}
 use base.Logic.{SProp, ent, emp, via, fst∗, id⊢}
 use base.Fml.{ftrue, fres}
@@ -40,7 +40,7 @@ use Rattle.lending.proofs.Rules.{Ensures, RuleOf, Passing, Left-over, Back, hand
 use Rattle.lending.proofs.Walks.{states, calls, loops, runs_as, framed, stands}
 use Rattle.lending.proofs.Lends.{slots, ended}
 
-module _ {T : RattleType} (PT : Plain T) (#rule : Name) (fresh : T.Denot) where
+module _ {T : RattleType} (PT : Plain T) (#rule : Callee) (fresh : T.Denot) where
   abbrev pub F : Parameters
   F = written T PT none
 
@@ -49,6 +49,8 @@ module _ {T : RattleType} (PT : Plain T) (#rule : Name) (fresh : T.Denot) where
   function = record {
     lifetimes = 1;
     outlives = [];
+    ty_params = [];
+    givens = 0;
     params = 1;
     locals =
         value ty_unit ∷ value (ty_ref (named 0) mut (pointee T.written)) ∷ value PT.mir ∷ [];
@@ -96,24 +98,24 @@ module _ {T : RattleType} (PT : Plain T) (#rule : Name) (fresh : T.Denot) where
       ends : ent 𝓤 (⋆ 𝓛 (seen_as fresh ∷ lent_again)) (Post vunit)
       ends =
           qed 𝓛 (seen_as fresh ∷ lent_again) ∵
-          use1 𝓛 (‵ (fres x.0.name (T.coded.code fresh)))
-          (𝓛.names.obs-res x.0.name (T.coded.code fresh)) $
+          use1 𝓛 (‵ (fres x.0.ghost_name (T.coded.code fresh)))
+          (𝓛.names.obs-res x.0.ghost_name (T.coded.code fresh)) $
           suffices ! _
           (ends_at 𝓛 (ended Nothing F) (stays (slots F)) c bound vunit tt (fresh, tt)
           (fits κs (slots F) x (fresh, tt))) $ states ! (follows κs x g) $
           -- [what says the last value; the borrow; the token]
-          nothing ! $ move ! (3 ∷ 0 ∷ []) $ join ! $ nothing ! $ move ! (2 ∷ 0 ∷ []) $ fjoin ! $
+          nothing ! $ move ! (3 ∷ 0 ∷ []) $ join ! $ nothing ! $ move ! (2 ∷ 3 ∷ []) $ fjoin ! $ fjoin ! $
           owned ! Nothing (Is Nothing) (Nothing-Makes 𝓛) tt _ refl $ move ! (2 ∷ 1 ∷ 0 ∷ []) $
           keep ! (0 ∷ 1 ∷ 2 ∷ []) $ done !
 
       walk : {C : Calls 𝓤 H} (Λ : Loops 𝓤 H) → FmC 𝓤 H 𝓛.laws C → Triple 𝓤 (C #rule) Rule
           → ent 𝓤 (on_entry 𝓛 (ended Nothing F).signature κs qs x (spelt F (side κs) x))
-          (WpFn 𝓤 H C Λ function (vptr x.0.ptr.0 x.0.ptr.1 ∷ []) Post)
+          (WpFn 𝓤 H C Λ function (vptr x.0.ref_ptr.0 x.0.ref_ptr.1 ∷ []) Post)
       walk {C} Λ fm ruled =
           via 𝓤 _ (enters 𝓛 F (side κs) qs x)
           (qed 𝓛 ((shut PT 𝓤 κs.0 qs.0 x.0 x.0.now ⊛ ‵ ftrue) ∷ raw (emp 𝓤) ∷ ‵ ftrue ∷ []) ∵
           keep ! (0 ∷ []) $ split ! $ split3 ! $
-          enter ! C Λ function (vptr x.0.ptr.0 x.0.ptr.1 ∷ []) _ $
+          enter ! C Λ function (vptr x.0.ref_ptr.0 x.0.ref_ptr.1 ∷ []) _ $
           alloc1 ! (λ l₀. alloc1 ! (λ l₁. alloc1 ! (λ l₂. alloc0 ! $ params1 ! $
           pass1 ! (init ! 2 refl (tt, tt)) $ pass0 ! $
           nothing ! $ nothing ! $ join ! $ use1 𝓛 (raw Alone) (id⊢ 𝓤 _) $
@@ -136,7 +138,7 @@ module _ {T : RattleType} (PT : Plain T) (#rule : Name) (fresh : T.Denot) where
           frees-cell ! $ free0 ! $ rewrite ! 0 seen_as e refl $ keep ! (0 ∷ 1 ∷ 2 ∷ []) $ by ! ends)))))))))))
 
   pub fills : {M : Type 1} {𝓤 : Ura M} (𝓛 : Logic 𝓤) (𝓜 : Model 𝓤 𝓛.H) (𝓡 : Running 𝓤 𝓛.H 𝓜)
-      (env : Routines) (#self : Name) → Closed 𝓤 𝓛.H (calls 𝓛 𝓜 𝓡 env) (loops 𝓛 𝓜 𝓡 env) #self function
+      (env : Routines) (#self : Callee) → Closed 𝓤 𝓛.H (calls 𝓛 𝓜 𝓡 env) (loops 𝓛 𝓜 𝓡 env) #self function
       → {rule : Routine} → env #rule ≡ rule → Triple 𝓤 (𝓡.run rule) (Rule 𝓛)
       → (c : Clauses 𝓤 (ended Nothing F)) → Follows 𝓛 c
       → Meets 𝓛 (ended Nothing F).signature (𝓡.run (env #self)) (closing 𝓛 (ended Nothing F) c)

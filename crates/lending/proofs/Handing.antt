@@ -6,7 +6,7 @@ use native.Mathlib.Nat.{zero-add}
 use native.Mathlib.Omega.{arith}
 use mathlib.Core.List.{[], ◌∷◌, ◌++◌, List}
 use seplogic.Ra.Ura.{Ura}
-use seplogic.Ra.TreeShare.{full_share}
+use base.Fraction.{full_share}
 use mir.Syntax.{named, erased, imm, mut, w8, Ty, ty_int, ty_ref, Opd as Operand, Body, place, deref, field, copy, rv_opd}
 use mir.Syntax.{addr_of, aggregate, assign, seq}
 use mir.Val.{Val, vptr}
@@ -42,8 +42,8 @@ contents none s a = tt
 contents (datum X PX F) s a = (PX.val a.0, contents F s a.1)
 contents (bytes F) s a = (slice_val a.0.ref_ptr (length a.0.now), contents F (next s) a.1)
 contents (buffer F) s a = (slice_val a.0.ref_ptr (length a.0.now), contents F (next s) a.1)
-contents (read X PX F) s a = (vptr a.0.ptr.0 a.0.ptr.1, contents F (next s) a.1)
-contents (written X PX F) s a = (vptr a.0.ptr.0 a.0.ptr.1, contents F (next s) a.1)
+contents (read X PX F) s a = (vptr a.0.ref_ptr.0 a.0.ref_ptr.1, contents F (next s) a.1)
+contents (written X PX F) s a = (vptr a.0.ref_ptr.0 a.0.ref_ptr.1, contents F (next s) a.1)
 
 -- ---- the locals that are made of them: a buffer is lent again, and a record that is lent is loaded
 abbrev lent-bytes : Ty
@@ -93,7 +93,7 @@ operands (written X PX F) i t = copy (place t []) ∷ operands F (suc i) (suc t)
 module _ {M : Type 1} {𝓤 : Ura M} {𝓛 : Logic 𝓤} where
   open 𝓛 use {H}
 
-  pub passes-all : {Γ : List (Item 𝓤)} (F : Parameters) (s : Side (lfts F)) (a : Denots (as-given F s))
+  pub passes-all : (F : Parameters) {Γ : List (Item 𝓤)} (s : Side (lfts F)) (a : Denots (as-given F s))
       (ls : Each ℕ (locals F s.first)) (E : Env 𝓤 H) {g : Goal 𝓤 H}
       → Are (as-given F s) (Ises (as-given F s)) a (spelt F s a)
       → Step (Go {0}) 𝓛 (cells 𝓤 (locals F s.first) ls (contents F s a) ∷ Γ) g (rooms 𝓤 (locals F s.first) ls ∷ Γ)
@@ -137,7 +137,7 @@ module _ {M : Type 1} {𝓤 : Ura M} (𝓛 : Logic 𝓤) {C : Calls 𝓤 𝓛.H}
     (E E₁ E₂ : Env 𝓤 𝓛.H) {rest : Body} {q : Post 𝓤 𝓛.H} where
   open 𝓛 use {H}
 
-  pub prepares : {Γ : List (Item 𝓤)} (F : Parameters) (s : Side (lfts F)) (qs : Shares (lfts F))
+  pub prepares : (F : Parameters) {Γ : List (Item 𝓤)} (s : Side (lfts F)) (qs : Shares (lfts F))
       (a : Denots (as-given F s)) (i t : ℕ) (ls : Each ℕ (locals F s.first)) (ts : Each ℕ (temps F))
       → Are (as-given F s) (Ises (as-given F s)) a (spelt F s a)
       → From 𝓤 H E i (env (locals F s.first) ls ++ E₁) → From 𝓤 H E t (env (temps F) ts ++ E₂)

@@ -5,7 +5,7 @@ use Prim.Native.Nat.{ℕ, suc, ◌+◌}
 use native.Mathlib.Omega.{arith}
 use mathlib.Core.List.{[], ◌∷◌, ◌++◌, List}
 use seplogic.Ra.Ura.{Ura}
-use mir.Syntax.{Ty, Name, Fn, Body, place, call, seq}
+use mir.Syntax.{Ty, Callee, Fn, Body, place, call, seq}
 use mir.Val.{Val}
 use base.Logic.{SProp, ent, emp, via, fst∗, id⊢}
 use base.Fml.{Fml, fdies}
@@ -95,7 +95,7 @@ abbrev pub last : (R : RattleType) (F : Parameters) (κs : Lfts (lfts F)) (a : A
     → Left F (side κs) (side (down F κs)) a → Stored F → Lasts (ended R F) κs a
 last R F κs a ws fs = lasting F (side κs) (side (down F κs)) a ws fs
 
-module _ {R : RattleType} (PR : Plain R) (F : Parameters) (#rule : Name) (T : Finish) where
+module _ {R : RattleType} (PR : Plain R) (F : Parameters) (#rule : Callee) (T : Finish) where
   -- the local after the parameters', and the first of those that are made of them
   abbrev pub behind : ℕ → ℕ
   behind i = suc (past (locals F 0) i)
@@ -108,6 +108,8 @@ module _ {R : RattleType} (PR : Plain R) (F : Parameters) (#rule : Name) (T : Fi
   function = record {
     lifetimes = lfts F;
     outlives = [];
+    ty_params = [];
+    givens = 0;
     params = past (locals F 0) 0;
     locals = value PR.mir ∷ values (locals F 0) ++ (values T.own ++ (values (temps F) ++ []));
     body = preparing F 1 made_at (seq (call #rule (operands F 1 made_at) (place T.to [])) T.then);
@@ -163,10 +165,10 @@ module _ {R : RattleType} (PR : Plain R) (F : Parameters) (#rule : Name) (T : Fi
     ends : (y : R.Denot) (u : Val) (ws : Left F s z a) (fs : Stored F)
         → ent 𝓤 (emp 𝓤) ((c κs a).ensures g y (at_exit (ended R F) κs a (last R F κs a ws fs)))
         → ent 𝓤 (⋆ 𝓛 (back 𝓤 F s qs a fs ∷ raw (rule-tokens 𝓛 F s qs) ∷ ‵ (rule-lasts 𝓛 F s z a ws)
-        ∷ ‵ (R.own y (u ∷ [])) ∷ [])) (Post u)
+        ∷ ‵ (R.own_val y (u ∷ [])) ∷ [])) (Post u)
     ends y u ws fs said =
         qed 𝓛 (back 𝓤 F s qs a fs ∷ raw (rule-tokens 𝓛 F s qs) ∷ ‵ (rule-lasts 𝓛 F s z a ws)
-        ∷ ‵ (R.own y (u ∷ [])) ∷ []) ∵
+        ∷ ‵ (R.own_val y (u ∷ [])) ∷ []) ∵
         use3 𝓛 (raw (tokens 𝓛 F s qs) ⊛ ‵ (lasts 𝓛 F s z a ws fs)) (leaves 𝓛 F s z refl qs a ws fs) $
         split ! $ rewrite ! 1 (λ (P : Fml). ‵ P) (same-lasts κs (slots F) a (last R F κs a ws fs) (spelt F s a)) refl $
         suffices ! _
@@ -191,7 +193,7 @@ module _ {R : RattleType} (PR : Plain R) (F : Parameters) (#rule : Name) (T : Fi
 
       pub frees-locals : (y : R.Denot) (u : Val) (vs : Each Val T.own) (ws : Left F s z a) (fs : Stored F)
           → ent 𝓤 (emp 𝓤) ((c κs a).ensures g y (at_exit (ended R F) κs a (last R F κs a ws fs)))
-          → Sq 𝓛 (‵ (R.own y (u ∷ []))
+          → Sq 𝓛 (‵ (R.own_val y (u ∷ []))
           ∷ raw (left_over ws)
           ∷ ‵ (cell PR.mir l₀ u) ∷ back 𝓤 F s qs a fs ∷ cells 𝓤 T.own os vs ∷ parameters ∷ arguments ∷ freedom)
           (frees E (prop (Post u)))
@@ -251,7 +253,7 @@ module _ {R : RattleType} (PR : Plain R) (F : Parameters) (#rule : Name) (T : Fi
           (lands C Λ (E l₀ ls os ts) (place T.to []) v T.then (at_ret (E l₀ ls os ts) Post))
 
   pub lends : {M : Type 1} {𝓤 : Ura M} (𝓛 : Logic 𝓤) (𝓜 : Model 𝓤 𝓛.H) (𝓡 : Running 𝓤 𝓛.H 𝓜)
-      (env : Routines) (#self : Name) → Closed 𝓤 𝓛.H (calls 𝓛 𝓜 𝓡 env) (loops 𝓛 𝓜 𝓡 env) #self function
+      (env : Routines) (#self : Callee) → Closed 𝓤 𝓛.H (calls 𝓛 𝓜 𝓡 env) (loops 𝓛 𝓜 𝓡 env) #self function
       → (X : RattleType) (said : Said X F) {rule : Routine} → env #rule ≡ rule
       → Triple 𝓤 (𝓡.run rule) (Rule X F said 𝓛)
       → (c : Clauses 𝓤 (ended R F))

@@ -3,7 +3,7 @@ use mathlib.Core.Path.{◌≡◌, refl, sym, ap, subst, ◌∙◌}
 use Prim.Native.Nat.{ℕ, zero, suc}
 use mathlib.Core.List.{[], ◌∷◌, ◌++◌, List}
 use seplogic.Ra.Ura.{Ura}
-use seplogic.Ra.TreeShare.{full_share}
+use base.Fraction.{full_share}
 use mir.Syntax.{Ty, Tyss, ttnil, ttcons, Body, Step as PStep, Local, local, value_local, place, field, variant, copy}
 use mir.Syntax.{switch, seq}
 use mir.Val.{Val}
@@ -85,8 +85,8 @@ module _ {M : Type 1} {𝓤 : Ura M} {𝓛 : Logic 𝓤} {K : Type 0} where
       → ((at : Each ℕ τs) → Seq K 𝓛 (rooms 𝓤 τs at ∷ dies 𝓤 τs at ∷ Γ) (allocs ls (λ E. Kt (env τs at ++ E))))
       → Seq K 𝓛 Γ (allocs (values τs ++ ls) Kt)
   alloc_all t [] ls k = nothing t $ nothing t $ k tt
-  alloc_all t (τ ∷ τs) ls k =
-      alloc1 t (λ l. alloc_all t τs ls (λ at.
+  alloc_all {Γ = Γ} t (τ ∷ τs) ls {Kt = Kt} k =
+      alloc1 t (λ l. alloc_all {Γ = ‵ (room τ l) ∷ ‵ (fdies τ l) ∷ Γ} t τs ls (λ at.
       -- [the others' rooms; their dies; the room; its dies; …]
       move t (2 ∷ 0 ∷ []) $ join t $ move t (2 ∷ 1 ∷ []) $ join t $ move t (1 ∷ 0 ∷ []) $ k (l, at)))
 

@@ -9,14 +9,14 @@ use base.Logic.{SProp, ent, emp, id⊢, mono_r}
 use base.Fml.{Lft, Share, Fml, ftrue, fsep, flft, fres}
 use types.Logic.{Logic, sem}
 use contract.Lifetimes.{Lfts, Shares, toks}
-use types.Kit.{Item, ⋆, ‵, raw, ◌⊛◌, ◌$◌, ◌∵◌, !, qed, move, keep, drop, use1, use2, use3, split, split3, join}
+use types.Kit.{Item, ⋆, ‵, raw, ◌⊛◌, ◌$◌, ◌∵◌, !, qed, move, drop, use1, use2, use3, split, split3, join}
 use types.Kit.{fsplit, fsplit3, fjoin, done}
 use denote.RattleType.{RattleType, Denots, Valss, owns}
 use denote.Laws.{Is, Ises, Spells, Tellss, valss}
 use denote.Builtin.{u8}
-use denote.Ref.{ShrRef, MutRef, shr_vals, shr_Tells, mut_Tells}
+use denote.Ref.{ShrRef, MutRef, shr_vals, mut_vals, shr_Tells, mut_Tells}
 use denote.Signature.{Slot, plain, types_at}
-use denote.Slice.{ShrSlice, MutSlice, shr_slice_vals, shr_slice_Tells, mut_slice_Tells}
+use denote.Slice.{ShrSlice, MutSlice, shr_slice_vals, mut_slice_vals, shr_slice_Tells, mut_slice_Tells}
 use denote.Steps.{owned, nothing}
 use denote.Triple.End.{Fins, all, lasts_of}
 use denote.Triple.Walked.{Stays, fits_of, has_of, AllGo}
@@ -127,9 +127,9 @@ abbrev pub spell : (F : Parameters) (s : Side (lfts F)) → Spells (as-given F s
 spell none s = tt
 spell (datum X PX F) s = ((λ x. PX.val x ∷ []), spell F s)
 spell (bytes F) s = (shr_slice_vals, spell F (next s))
-spell (buffer F) s = (shr_slice_vals, spell F (next s))
+spell (buffer F) s = (mut_slice_vals, spell F (next s))
 spell (read X PX F) s = (shr_vals, spell F (next s))
-spell (written X PX F) s = (shr_vals, spell F (next s))
+spell (written X PX F) s = (mut_vals, spell F (next s))
 
 pub tell : (F : Parameters) (s : Side (lfts F)) → Tellss (as-given F s) (Ises (as-given F s)) (spell F s)
 tell none s = tt
@@ -147,7 +147,7 @@ abbrev pub handed : (F : Parameters) (s : Side (lfts F)) (z : Side (rule-lfts F)
 handed none s z a = tt
 handed (datum X PX F) s z a = (PX.val a.0 ∷ [], handed F s z a.1)
 handed (bytes F) s z a = (shr_slice_vals a.0, handed F (next s) (next z) a.1)
-handed (buffer F) s z a = (shr_slice_vals a.0, handed F (next s) (next z) a.1)
+handed (buffer F) s z a = (mut_slice_vals a.0, handed F (next s) (next z) a.1)
 handed (read X PX F) s z a = (PX.val a.0.now ∷ [], handed F (next s) z a.1)
 handed (written X PX F) s z a = (PX.val a.0.now ∷ [], handed F (next s) z a.1)
 
@@ -266,11 +266,11 @@ same-held 𝓤 (written X PX F) only s qs a = absurd only
 -- what goes to the rule beside those records
 abbrev pub rest : (F : Parameters) (s : Side (lfts F)) → Denots (as-given F s) → Fml
 rest none s a = ftrue
-rest (datum X PX F) s a = fsep (X.own a.0 (PX.val a.0 ∷ [])) (rest F s a.1)
+rest (datum X PX F) s a = fsep (X.own_val a.0 (PX.val a.0 ∷ [])) (rest F s a.1)
 rest (bytes F) s a =
     fsep ((ShrSlice (named s.first) (lft s) u8).own_val a.0 (shr_slice_vals a.0)) (rest F (next s) a.1)
 rest (buffer F) s a =
-    fsep ((MutSlice (named s.first) (lft s) u8).own_val a.0 (shr_slice_vals a.0)) (rest F (next s) a.1)
+    fsep ((MutSlice (named s.first) (lft s) u8).own_val a.0 (mut_slice_vals a.0)) (rest F (next s) a.1)
 rest (read X PX F) s a = rest F (next s) a.1
 rest (written X PX F) s a = rest F (next s) a.1
 
@@ -298,7 +298,7 @@ module _ {M : Type 1} {𝓤 : Ura M} (𝓛 : Logic 𝓤) where
       (⋆ 𝓛 (loans 𝓤 F s qs a ∷ raw (rule-tokens F s qs) ∷ ‵ (rest F s a) ∷ []))
   enters none s qs a = qed 𝓛 (raw (emp 𝓤) ∷ ‵ ftrue ∷ []) ∵ nothing ! $ done !
   enters (datum X PX F) s qs a =
-      let own = X.own a.0 (PX.val a.0 ∷ []) in
+      let own = X.own_val a.0 (PX.val a.0 ∷ []) in
       qed 𝓛 (raw (tokens F s qs) ∷ ‵ (fsep own (owns (as-given F s) a.1 (spelt F s a.1))) ∷ []) ∵
       move ! (1 ∷ []) $ fsplit ! $ move ! (2 ∷ 1 ∷ []) $
       use2 𝓛 (loans 𝓤 F s qs a.1 ⊛ raw (rule-tokens F s qs) ⊛ ‵ (rest F s a.1)) (enters F s qs a.1) $
@@ -309,7 +309,7 @@ module _ {M : Type 1} {𝓤 : Ura M} (𝓛 : Logic 𝓤) where
       (tokens F (next s) qs.1) (rule-tokens F (next s) qs.1) (loans 𝓤 F (next s) qs.1 a.1)
       (lft s) qs.0 (enters F (next s) qs.1 a.1)
   enters (buffer F) s qs a =
-      beside ((MutSlice (named s.first) (lft s) u8).own_val a.0 (shr_slice_vals a.0))
+      beside ((MutSlice (named s.first) (lft s) u8).own_val a.0 (mut_slice_vals a.0))
       (owns (as-given F (next s)) a.1 (spelt F (next s) a.1)) (rest F (next s) a.1)
       (tokens F (next s) qs.1) (rule-tokens F (next s) qs.1) (loans 𝓤 F (next s) qs.1 a.1)
       (lft s) qs.0 (enters F (next s) qs.1 a.1)
@@ -317,11 +317,11 @@ module _ {M : Type 1} {𝓤 : Ura M} (𝓛 : Logic 𝓤) where
       let own = (ShrRef (named s.first) (lft s) X).own_val a.0 (shr_vals a.0) in
       qed 𝓛 ((‵ (flft (lft s) qs.0) ⊛ raw (tokens F (next s) qs.1))
       ∷ ‵ (fsep own (owns (as-given F (next s)) a.1 (spelt F (next s) a.1))) ∷ []) ∵
-      split ! $ move ! (2 ∷ []) $ fsplit ! $ fsplit3 ! $ drop ! $ drop ! $ move ! (3 ∷ 1 ∷ []) $
+      split ! $ move ! (2 ∷ []) $ fsplit ! $ fsplit ! $ drop ! $ move ! (3 ∷ 1 ∷ []) $
       use2 𝓛 (loans 𝓤 F (next s) qs.1 a.1 ⊛ raw (rule-tokens F (next s) qs.1) ⊛ ‵ (rest F (next s) a.1))
       (enters F (next s) qs.1 a.1) $ split3 ! $ move ! (3 ∷ 4 ∷ []) $ join ! $ join ! $ done !
   enters (written X PX F) s qs a =
-      let own = (MutRef (named s.first) (lft s) X).own_val a.0 (shr_vals a.0) in
+      let own = (MutRef (named s.first) (lft s) X).own_val a.0 (mut_vals a.0) in
       qed 𝓛 ((‵ (flft (lft s) qs.0) ⊛ raw (tokens F (next s) qs.1))
       ∷ ‵ (fsep own (owns (as-given F (next s)) a.1 (spelt F (next s) a.1))) ∷ []) ∵
       split ! $ move ! (2 ∷ []) $ fsplit ! $ fsplit3 ! $ drop ! $ move ! (4 ∷ 2 ∷ []) $
@@ -331,7 +331,7 @@ module _ {M : Type 1} {𝓤 : Ura M} (𝓛 : Logic 𝓤) where
 
   -- ---- when the rule is called: with the records that were loaded, what it takes is whole
   by_value : {X : RattleType} (PX : Plain X) (x : X.Denot) → Is X x (PX.val x ∷ []) → (P Q : Fml)
-      → ent 𝓤 (sem 𝓛 P) (sem 𝓛 Q) → ent 𝓤 (sem 𝓛 P) (sem 𝓛 (fsep (X.own x (PX.val x ∷ [])) Q))
+      → ent 𝓤 (sem 𝓛 P) (sem 𝓛 Q) → ent 𝓤 (sem 𝓛 P) (sem 𝓛 (fsep (X.own_val x (PX.val x ∷ [])) Q))
   by_value {X} PX x is P Q more =
       qed 𝓛 (‵ P ∷ []) ∵ use1 𝓛 (‵ Q) more $ owned ! X (Is X) (PX.makes 𝓛) x _ is $ fjoin ! $ done !
 
@@ -346,14 +346,14 @@ module _ {M : Type 1} {𝓤 : Ura M} (𝓛 : Logic 𝓤) where
       → ent 𝓤 (sem 𝓛 (rest F s a)) (sem 𝓛 (owns (as-taken F z) (pass F s z a) (handed F s z a)))
   owned-by-rule none s z e a was = id⊢ 𝓤 (emp 𝓤)
   owned-by-rule (datum X PX F) s z e a was =
-      mono_r 𝓤 (sem 𝓛 (X.own a.0 (PX.val a.0 ∷ []))) (owned-by-rule F s z e a.1 was)
+      mono_r 𝓤 (sem 𝓛 (X.own_val a.0 (PX.val a.0 ∷ []))) (owned-by-rule F s z e a.1 was)
   owned-by-rule (bytes F) s z e a was =
       at_once (λ κ. (ShrSlice (named 0) κ u8).own_val a.0 (shr_slice_vals a.0)) (rest F (next s) a.1)
       (owns (as-taken F (next z)) (pass F (next s) (next z) a.1) (handed F (next s) (next z) a.1))
       (ap (λ κs. κs.0) e)
       (owned-by-rule F (next s) (next z) (ap (λ κs. κs.1) e) a.1 was)
   owned-by-rule (buffer F) s z e a was =
-      at_once (λ κ. (MutSlice (named 0) κ u8).own_val a.0 (shr_slice_vals a.0)) (rest F (next s) a.1)
+      at_once (λ κ. (MutSlice (named 0) κ u8).own_val a.0 (mut_slice_vals a.0)) (rest F (next s) a.1)
       (owns (as-taken F (next z)) (pass F (next s) (next z) a.1) (handed F (next s) (next z) a.1))
       (ap (λ κs. κs.0) e)
       (owned-by-rule F (next s) (next z) (ap (λ κs. κs.1) e) a.1 was)
@@ -404,10 +404,18 @@ module _ {M : Type 1} {𝓤 : Ura M} (𝓛 : Logic 𝓤) where
       (rule-tokens F (next s) qs.1) (tokens F (next s) qs.1) (back 𝓤 F (next s) qs.1 a.1 fs)
       (lft s) qs.0 (leaves F (next s) (next z) (ap (λ κs. κs.1) e) qs.1 a.1 ws.1 fs)
   leaves (buffer F) s z e qs a ws fs =
-      behind (left ((MutSlice (named 0) (lft s) u8).exit yes) a.0 ws.0)
+      let last : Lft → Fml = λ κ. left ((MutSlice (named 0) κ u8).exit yes) a.0 ws.0 in
+      subst
+      (λ (κ : Lft). ent 𝓤
+      (⋆ 𝓛 (back 𝓤 F (next s) qs.1 a.1 fs ∷ (‵ (flft (lft s) qs.0) ⊛ raw (rule-tokens F (next s) qs.1))
+      ∷ ‵ (fsep (last κ) (rule-lasts F (next s) (next z) a.1 ws.1)) ∷ []))
+      (⋆ 𝓛 ((‵ (flft (lft s) qs.0) ⊛ raw (tokens F (next s) qs.1))
+      ∷ ‵ (fsep (last (lft s)) (lasts F (next s) (next z) a.1 ws.1 fs)) ∷ [])))
+      (sym (ap (λ κs. κs.0) e))
+      (behind (last (lft s))
       (rule-lasts F (next s) (next z) a.1 ws.1) (lasts F (next s) (next z) a.1 ws.1 fs)
       (rule-tokens F (next s) qs.1) (tokens F (next s) qs.1) (back 𝓤 F (next s) qs.1 a.1 fs)
-      (lft s) qs.0 (leaves F (next s) (next z) (ap (λ κs. κs.1) e) qs.1 a.1 ws.1 fs)
+      (lft s) qs.0 (leaves F (next s) (next z) (ap (λ κs. κs.1) e) qs.1 a.1 ws.1 fs))
   leaves (read X PX F) s z e qs a ws fs =
       let ours = raw (tokens F (next s) qs.1) ⊛ ‵ (lasts F (next s) z a.1 ws.1 fs) in
       qed 𝓛 ((‵ (flft (lft s) qs.0) ⊛ back 𝓤 F (next s) qs.1 a.1 fs) ∷ raw (rule-tokens F (next s) qs.1)
@@ -417,12 +425,12 @@ module _ {M : Type 1} {𝓤 : Ura M} (𝓛 : Logic 𝓤) where
       move ! (2 ∷ 1 ∷ []) $ join ! $ done !
   leaves (written X PX F) s z e qs a ws fs =
       let ours = raw (tokens F (next s) qs.1) ⊛ ‵ (lasts F (next s) z a.1 ws.1 fs.1) in
-      let said = fres a.0.name (X.coded.code fs.0) in
+      let said = fres a.0.ghost_name (X.coded.code fs.0) in
       qed 𝓛 ((shut PX 𝓤 (lft s) qs.0 a.0 fs.0 ⊛ back 𝓤 F (next s) qs.1 a.1 fs.1)
       ∷ raw (rule-tokens F (next s) qs.1)
       ∷ ‵ (fsep (left (X.exit yes) a.0.now ws.0) (rule-lasts F (next s) z a.1 ws.1)) ∷ []) ∵
-      split ! $ split3 ! $ use1 𝓛 (‵ said) (𝓛.names.obs-res a.0.name (X.coded.code fs.0)) $
+      split ! $ split3 ! $ use1 𝓛 (‵ said) (𝓛.names.obs-res a.0.ghost_name (X.coded.code fs.0)) $
       -- [what says the last value; the borrow; its token; what is back of the others; the tokens; the last values]
-      move ! (5 ∷ []) $ fsplit ! $ drop ! $ move ! (4 ∷ 5 ∷ 0 ∷ []) $
+      fjoin ! $ move ! (4 ∷ []) $ fsplit ! $ drop ! $ move ! (3 ∷ 4 ∷ 0 ∷ []) $
       use3 𝓛 ours (leaves F (next s) z e qs.1 a.1 ws.1 fs.1) $ split ! $ move ! (2 ∷ 1 ∷ []) $ fjoin ! $
-      move ! (3 ∷ 1 ∷ []) $ join ! $ move ! (0 ∷ 1 ∷ []) $ keep ! (0 ∷ 1 ∷ []) $ done !
+      move ! (2 ∷ 1 ∷ []) $ join ! $ done !

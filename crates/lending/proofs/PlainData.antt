@@ -14,6 +14,8 @@ use contract.Monad.{fact_use}
 use denote.RattleType.{RattleType}
 use denote.Exit.{yes, unchanged}
 use denote.Laws.{Is, Tells, Makes, Copy, shows, valss}
+use denote.Opens.{Opens}
+use denote.Copied.{uint_Copied}
 use denote.Plain.{UInt, uint_Tells, uint_Makes, uint_Lawful}
 use denote.Steps.{only}
 use denote.Struct.Struct.{layout, Plains, AreAll}
@@ -32,6 +34,7 @@ pub record Plain (X : RattleType) : Type 2 where
   pub typed : {M : Type 1} {𝓤 : Ura M} (𝓛 : Logic 𝓤) →
       (x : X.Denot) (v : Val) → Is X x (v ∷ []) → Holds (has_ty mir v) × WT v
   pub makes : {M : Type 1} {𝓤 : Ura M} (𝓛 : Logic 𝓤) → Makes 𝓛 X (Is X)
+  pub opens : {M : Type 1} {𝓤 : Ura M} (𝓛 : Logic 𝓤) → Opens 𝓛 X
   pub still : X.exit yes ≡ unchanged
 
 -- what it owns can be had twice
@@ -39,7 +42,7 @@ pub twice : {X : RattleType} → Plain X → {M : Type 1} {𝓤 : Ura M} (𝓛 :
     Copy 𝓛 X
 twice {X} PX {𝓤 = 𝓤} 𝓛 = record {
   twice = λ x vs.
-      let own = sem 𝓛 (X.own x vs) in
+      let own = sem 𝓛 (X.own_val x vs) in
       fact_use 𝓤 (Is X x vs) (shows 𝓛 X x vs) (λ is.
       via 𝓤 _ (emp∗ 𝓤 own) (mono_l 𝓤 own (PX.makes 𝓛 x vs is)));
 }
@@ -55,6 +58,7 @@ plain-uint w = record {
   tells = uint_Tells w;
   typed = λ 𝓛 x v is. ((uint_Lawful 𝓛 w).typed x (v ∷ []) is).0;
   makes = λ 𝓛. uint_Makes 𝓛 w;
+  opens = λ 𝓛. (uint_Copied 𝓛 w).opens;
   still = refl;
 }
 
@@ -67,6 +71,7 @@ plain-struct S laws plain copy = record {
   tells = structs.tells S laws;
   typed = λ 𝓛 x v is. ((structs.lawful S laws 𝓛).typed x (v ∷ []) is).0;
   makes = λ 𝓛. structs.makes S plain 𝓛;
+  opens = λ 𝓛. (structs.copied S copy 𝓛).opens;
   still = structs.still S copy yes;
 }
 
@@ -79,6 +84,7 @@ plain-enum S laws few plain copy = record {
   tells = enums.tells S laws;
   typed = λ 𝓛 x v is. ((enums.lawful S laws 𝓛 few).typed x (v ∷ []) is).0;
   makes = λ 𝓛. enums.makes S plain 𝓛;
+  opens = λ 𝓛. (enums.copied S copy 𝓛).opens;
   still = enums.still S copy yes;
 }
 

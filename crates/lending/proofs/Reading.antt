@@ -2,7 +2,7 @@
 use mathlib.Core.Path.{◌≡◌, refl}
 use mathlib.Core.List.{[]}
 use seplogic.Ra.Ura.{Ura}
-use mir.Syntax.{Name, return}
+use mir.Syntax.{Callee, return}
 use base.Logic.{ent, emp}
 use prog.Model.{Model}
 use prog.Routine.{Routine, Env as Routines}
@@ -25,7 +25,7 @@ use Rattle.lending.proofs.Lends.{Finish, Said, Rule, Met, ended, function, last,
 abbrev handing-on : Finish
 handing-on = record { own = []; to = 0; then = return }
 
-module _ {R : RattleType} (PR : Plain R) (F : Parameters) (only : ReadOnly F) (#rule : Name) (said : Said R F) where
+module _ {R : RattleType} (PR : Plain R) (F : Parameters) (only : ReadOnly F) (#rule : Callee) (said : Said R F) where
   -- what the function's clauses ask, of its result and of what the rule leaves of the parameters
   abbrev pub Follows : {M : Type 1} (𝓤 : Ura M) → Clauses 𝓤 (ended R F) → Type 1
   Follows 𝓤 c =
@@ -34,7 +34,7 @@ module _ {R : RattleType} (PR : Plain R) (F : Parameters) (only : ReadOnly F) (#
       → ent 𝓤 (emp 𝓤) ((c κs a).ensures g r (at_exit (ended R F) κs a (last R F κs a ws (nothing_stored F only))))
 
   pub reads : {M : Type 1} {𝓤 : Ura M} (𝓛 : Logic 𝓤) (𝓜 : Model 𝓤 𝓛.H) (𝓡 : Running 𝓤 𝓛.H 𝓜)
-      (env : Routines) (#self : Name)
+      (env : Routines) (#self : Callee)
       → Closed 𝓤 𝓛.H (calls 𝓛 𝓜 𝓡 env) (loops 𝓛 𝓜 𝓡 env) #self (function PR F #rule handing-on)
       → {rule : Routine} → env #rule ≡ rule → Triple 𝓤 (𝓡.run rule) (Rule R F said 𝓛)
       → (c : Clauses 𝓤 (ended R F)) → Follows 𝓤 c

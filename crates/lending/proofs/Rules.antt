@@ -4,7 +4,7 @@ use mathlib.Core.Path.{◌≡◌, refl}
 use Prim.Native.Nat.{ℕ}
 use mathlib.Core.List.{[], ◌∷◌, List}
 use seplogic.Ra.Ura.{Ura}
-use mir.Syntax.{Name, Place, place, copy, call, seq, return}
+use mir.Syntax.{Callee, Place, place, copy, call, seq, return}
 use mir.Val.{Val}
 use base.Logic.{SProp, ent, sep, emp, ex, via, ex_e, ex_i, id⊢, mono_r}
 use prog.Wp.{Calls, Loops, Env}
@@ -35,7 +35,7 @@ module _ {M : Type 1} (𝓤 : Ura M) (X : RattleType) {Ws : Type 0} (Met : X.Den
   abbrev pub Back : Val → Item 𝓤
   Back v =
       later (some (λ (r : X.Denot). some (λ (ws : Ws).
-      ‵ (X.own r (v ∷ [])) ⊛ raw (fact 𝓤 (Met r ws)) ⊛ raw (B ws))))
+      ‵ (X.own_val r (v ∷ [])) ⊛ raw (fact 𝓤 (Met r ws)) ⊛ raw (B ws))))
 
   -- the call, on vs, takes P and leaves that
   abbrev pub Hands : (𝓛 : Logic 𝓤) → Fun 𝓤 → List Val → SProp 𝓤 → Type 1
@@ -94,7 +94,7 @@ module _ (X : RattleType) {n : ℕ} (Fs : List (Slot n)) where
         Ensured = ensured 𝓛 rule-ended rule-clauses κs xs tt
 
         abbrev Returns : Val → Item 𝓤
-        Returns u = later (some (λ (r : X.Denot). (raw Tokens ⊛ ‵ (X.own r (u ∷ []))) ⊛ raw (Ensured r)))
+        Returns u = later (some (λ (r : X.Denot). (raw Tokens ⊛ ‵ (X.own_val r (u ∷ []))) ⊛ raw (Ensured r)))
 
         -- it leaves a result that meets Met, where it says so
         module _ (Met : X.Denot → Lasts rule-ended κs xs → Type 0)
@@ -109,7 +109,7 @@ module _ (X : RattleType) {n : ℕ} (Fs : List (Slot n)) where
               (ex_i 𝓤 (λ (ws : Lasts rule-ended κs xs). mean 𝓛 (Told r ws)) ws))
 
           abbrev Leaves : Val → X.Denot → Lasts rule-ended κs xs → SProp 𝓤
-          Leaves u r ws = sep 𝓤 (sem 𝓛 (X.own r (u ∷ []))) (sep 𝓤 (fact 𝓤 (Met r ws)) (Leftover ws))
+          Leaves u r ws = sep 𝓤 (sem 𝓛 (X.own_val r (u ∷ []))) (sep 𝓤 (fact 𝓤 (Met r ws)) (Leftover ws))
 
           comes : (u : Val) → ent 𝓤 (RuleOf.post to-rule u) (mean 𝓛 (Back 𝓤 X Met Leftover u))
           comes u =
@@ -119,7 +119,7 @@ module _ (X : RattleType) {n : ℕ} (Fs : List (Slot n)) where
               move ! (3 ∷ 1 ∷ 2 ∷ 0 ∷ []) $ at_once ! $ show ! (λ (r : X.Denot). ex 𝓤 (Leaves u r)) r $
               show ! (Leaves u r) ws $ done !))
 
-          pub hands : {C : Calls 𝓤 H} → FmC 𝓤 H 𝓛.laws C → (#rule : Name) → Triple 𝓤 (C #rule) RuleOf
+          pub hands : {C : Calls 𝓤 H} → FmC 𝓤 H 𝓛.laws C → (#rule : Callee) → Triple 𝓤 (C #rule) RuleOf
               → Hands 𝓤 X Met Leftover 𝓛 (C #rule) (flat (types_at Fs κs) vss) Passes
           hands {C} fm #rule met =
               via 𝓤 _ goes (via 𝓤 _ (met to-rule) (fm→mono_c 𝓤 H 𝓛.laws C fm #rule _ _ _ comes))
@@ -131,7 +131,7 @@ module _ {R : RattleType} (PR : Plain R) {M : Type 1} {𝓤 : Ura M} (𝓛 : Log
 
   pub results : {Γ : List (Item 𝓤)} {C : Calls 𝓤 H} {Λ : Loops 𝓤 H} {E : Env 𝓤 H} {l : ℕ} {Kf : Val → SProp 𝓤} (u : Val)
       → ((r : R.Denot) (ws : Ws) → Met r ws
-      → Sq 𝓛 (‵ (R.own r (u ∷ [])) ∷ raw (B ws) ∷ ‵ (cell PR.mir l u) ∷ Γ) (frees ((PR.mir, l) ∷ E) (prop (Kf u))))
+      → Sq 𝓛 (‵ (R.own_val r (u ∷ [])) ∷ raw (B ws) ∷ ‵ (cell PR.mir l u) ∷ Γ) (frees ((PR.mir, l) ∷ E) (prop (Kf u))))
       → Sq 𝓛 (raw (mean 𝓛 (Back 𝓤 R Met B u)) ∷ ‵ (room PR.mir l) ∷ Γ)
       (lands C Λ ((PR.mir, l) ∷ E) (place 0 []) u return (at_ret ((PR.mir, l) ∷ E) Kf))
   results u k =
@@ -160,10 +160,10 @@ module _ {N R : RattleType} (PN : Plain N) (PR : Plain R) (numbers : N.Denot →
         qed 𝓛 [] ∵ nothing ! $ owned ! N (Is N) (PN.makes 𝓛) a _ is $ fjoin ! $ nothing ! $ done !
 
     pub makes-numbers : {Γ : List (Item 𝓤)} {C : Calls 𝓤 H} {Λ : Loops 𝓤 H} {E : Env 𝓤 H} {l : ℕ} {p : Place}
-        {#numbers : Name} {Kf : Val → SProp 𝓤} → FmC 𝓤 H 𝓛.laws C → Triple 𝓤 (C #numbers) Answers
+        {#numbers : Callee} {Kf : Val → SProp 𝓤} → FmC 𝓤 H 𝓛.laws C → Triple 𝓤 (C #numbers) Answers
         → Opd (Go {0}) 𝓛 (raw Alone ∷ ‵ (room PR.mir l) ∷ Γ) ((PR.mir, l) ∷ E) (copy p) (PN.val a)
         → ((r : R.Denot) (u : Val) → r ≡ numbers a
-        → Sq 𝓛 (‵ (R.own r (u ∷ [])) ∷ ‵ (cell PR.mir l u) ∷ Γ) (frees ((PR.mir, l) ∷ E) (prop (Kf u))))
+        → Sq 𝓛 (‵ (R.own_val r (u ∷ [])) ∷ ‵ (cell PR.mir l u) ∷ Γ) (frees ((PR.mir, l) ∷ E) (prop (Kf u))))
         → Sq 𝓛 (‵ (room PR.mir l) ∷ Γ)
         (runs C Λ ((PR.mir, l) ∷ E) (seq (call #numbers (copy p ∷ []) (place 0 [])) return)
         (at_ret ((PR.mir, l) ∷ E) Kf))

@@ -1,7 +1,7 @@
 -- From a walk of a function's MIR to its contract, and facts as clauses.
 use mathlib.Core.List.{List}
 use seplogic.Ra.Ura.{Ura}
-use mir.Syntax.{Name, Fn}
+use mir.Syntax.{Callee, Fn}
 use base.Logic.{SProp, ent, sep, emp, via, id⊢, emp∗, comm∗, mono_l, mono_r}
 use prog.Model.{Model}
 use prog.Routine.{Env as Routines}
@@ -67,7 +67,7 @@ module _ {M : Type 1} {𝓤 : Ura M} (𝓛 : Logic 𝓤) (𝓜 : Model 𝓤 𝓛
   unfolding tables_of
   framed = fm_of 𝓤 H 𝓛.laws (tables_of 𝓤 H 𝓜 (tables 𝓤 H 𝓜 𝓡 env))
 
-  pub stands : (S : Ended) (hs : Stays S.signature.params S.kept) (c : Clauses 𝓤 S) (#self : Name) (f : Fn)
+  pub stands : (S : Ended) (hs : Stays S.signature.params S.kept) (c : Clauses 𝓤 S) (#self : Callee) (f : Fn)
       → Closed 𝓤 H calls loops #self f → Walks 𝓛 S hs (runs_as f) c
       → AllGo 𝓛 S.signature.lifetimes S.signature.params S.kept hs
       → Meets 𝓛 S.signature (calls #self) (closing 𝓛 S c)

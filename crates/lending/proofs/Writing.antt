@@ -4,7 +4,7 @@ use mathlib.Core.Path.{◌≡◌, refl}
 use Prim.Native.Nat.{ℕ, zero, suc}
 use mathlib.Core.List.{[], ◌∷◌, ◌++◌, List}
 use seplogic.Ra.Ura.{Ura}
-use mir.Syntax.{Ty, Name, Place, Body, place, deref, field, copy, rv_opd, assign, call, seq, return}
+use mir.Syntax.{Ty, Callee, Place, Body, place, deref, field, copy, rv_opd, assign, call, seq, return}
 use mir.Val.{Val}
 use base.Logic.{SProp, ent, emp, id⊢}
 use prog.Model.{Model}
@@ -48,7 +48,7 @@ answer-values once x = tt
 answer-values {PN = PN} (by-case e) x = (PN.val x, tt)
 
 module _ {T N R : RattleType} {PT : Plain T} {PN : Plain N} (O : Outcome PT PN) (PR : Plain R)
-    (numbers : N.Denot → R.Denot) (#rule #numbers : Name) (way : Way PN) (others : Parameters)
+    (numbers : N.Denot → R.Denot) (#rule #numbers : Callee) (way : Way PN) (others : Parameters)
     (only : ReadOnly others) where
   abbrev pub F : Parameters
   F = written T PT others
@@ -147,7 +147,7 @@ module _ {T N R : RattleType} {PT : Plain T} {PN : Plain N} (O : Outcome PT PN) 
       -- the end, once the numbers are there
       abbrev Ends : O.row.Denot → List (Item 𝓤) → Type 1
       Ends r Γ = (y : R.Denot) (u : Val) → y ≡ numbers (O.answer r)
-          → Sq 𝓛 (‵ (R.own y (u ∷ [])) ∷ ‵ (cell PR.mir l₀ u) ∷ Kept r Γ) (frees E (prop (Kf u)))
+          → Sq 𝓛 (‵ (R.own_val y (u ∷ [])) ∷ ‵ (cell PR.mir l₀ u) ∷ Kept r Γ) (frees E (prop (Kf u)))
 
       -- the record of the outcome is stored, the loan is shut, and the answer, which is at q, is made numbers
       keeps : {Γ : List (Item 𝓤)} {q : Place} (r : O.row.Denot) → Both-are PT PN (O.next r) (O.answer r)
@@ -204,7 +204,7 @@ module _ {T N R : RattleType} {PT : Plain T} {PN : Plain N} (O : Outcome PT PN) 
           (O.next r, nothing_stored others only) (follows κs x g y r ws met e))))))
 
     pub writes : {M : Type 1} {𝓤 : Ura M} (𝓛 : Logic 𝓤) (𝓜 : Model 𝓤 𝓛.H) (𝓡 : Running 𝓤 𝓛.H 𝓜)
-        (env : Routines) (#self : Name)
+        (env : Routines) (#self : Callee)
         → Closed 𝓤 𝓛.H (calls 𝓛 𝓜 𝓡 env) (loops 𝓛 𝓜 𝓡 env) #self (function PR F #rule storing)
         → {rule : Routine} → env #rule ≡ rule → Triple 𝓤 (𝓡.run rule) (Rule O.row F said 𝓛)
         → {maker : Routine} → env #numbers ≡ maker → Triple 𝓤 (𝓡.run maker) (Answers PN PR numbers 𝓛)

@@ -51,7 +51,8 @@ impl Program {
     }
 
     fn repositorys(&self) -> PathBuf {
-        Path::new(env!("CARGO_MANIFEST_DIR")).join("../../target/bin").join(self.name)
+        let crates = Path::new(env!("CARGO_MANIFEST_DIR")).join("../../crates");
+        crates.join(self.name).join("out").join(self.name)
     }
 
     /// A run; `feed` writes its standard input.

@@ -1,10 +1,6 @@
 -- `any_set`: the bytes passed and those that are left decide together.
-use mathlib.Core.Path.{◌≡◌, ◌∙◌}
-use mathlib.Core.Bool.{◌||◌}
-use Prim.Native.Nat.{◌≤◌, ◌-◌}
+use mathlib.Core.Path.{◌∙◌}
 use borrow.Author.Rules.{rules}
-use lib.ListN.{length, drop}
-use Rattle.endian.specs.Bytes.{any_set}
 use Rattle.endian.proofs.Bytes.{set_all, set_more}
 use Rattle.endian.proofs.any_set.Goals as goal
 

@@ -1,8 +1,7 @@
 -- Laws of one record.
 use mathlib.Core.Path.{◌≡◌, refl, sym, ap, ◌∙◌}
 use mathlib.Core.Bool.{Bool, true, false, true≢false, cond, not, ◌&&◌, and-false}
-use mathlib.Core.List.{List, [], ◌∷◌}
-use mathlib.Core.Logic.{⊎_elim}
+use mathlib.Core.List.{List, []}
 use mathlib.Core.Option.{Option, none, some}
 use Prim.Native.Nat.{ℕ, ◌+◌, ◌-◌, ◌*◌, ◌<◌, ◌≤◌}
 use native.Mathlib.Nat.{zero-add, add_comm}
@@ -10,11 +9,9 @@ use native.Mathlib.Numerals.{add-one}
 use native.Mathlib.Omega.{arith}
 use borrow.Author.Tests.{eq-eqb, ne_eqb, eqb-true, eqb-false, le-leb, lt-leb, leb-true, leb-false}
 use borrow.Author.Rules.{part_to_end}
-use denote.Enum.Declared.{tag_of}
 use lib.Dec.{eqb, leb}
 use lib.ListN.{length, get_or, set, take, drop, replicate, length-take, length-drop, length-replicate}
 use lib.Seq.{take_all, drop-cons, get_or-drop, paste, paste-suc}
-use types.Run.{OneOf}
 use Rattle.endian.specs.Bytes.{any_set}
 use Rattle.endian.specs.Loads.{number}
 use Rattle.endian.proofs.Numbers.{below, both-clear, first-set}
@@ -36,7 +33,6 @@ use Rattle.records.specs.Records.{attribute, completion_of, call_of, is_kind, is
 use Rattle.records.specs.Records.{record_refusal, record_answer, says_record, after_record, timed_by}
 use Rattle.records.specs.declared.answers.RecordAnswer.{RecordAnswer}
 use Rattle.records.specs.declared.answers.RecordAnswer.TheVariants as answer
-use Rattle.records.specs.contracts.answers.RecordAnswer.{the_type}
 
 -- a part of at most eight bytes is loaded whole
 pub loaded : (l : List ℕ) (n : ℕ) → n ≤ 8 → number (take 8 (take n l)) ≡ number (take n l)

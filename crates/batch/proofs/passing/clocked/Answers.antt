@@ -1,6 +1,5 @@
 -- `clocked`: accepted, and turned away.
 use borrow.Author.Tests.{lt-ltb, le-ltb}
-use borrow.Author.Rules.{rules}
 use Rattle.batch.specs.Passing.{clocked_by}
 use Rattle.rules.specs.Refusals.{clock_refusal}
 use Rattle.batch.proofs.passing.clocked.Goals as goal

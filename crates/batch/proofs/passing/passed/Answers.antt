@@ -1,6 +1,5 @@
 -- `passed`: accepted, and turned away.
 use borrow.Author.Tests.{lt-ltb, le-ltb}
-use borrow.Author.Rules.{rules}
 use Rattle.batch.specs.Passing.{passed_by}
 use Rattle.rules.specs.Refusals.{elapsed_refusal}
 use Rattle.batch.proofs.passing.passed.Goals as goal

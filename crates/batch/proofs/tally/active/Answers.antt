@@ -1,5 +1,4 @@
 -- `active`: both parts of the counts are the record's own.
-use borrow.Author.Rules.{rules}
 use Rattle.batch.proofs.tally.active.Goals as goal
 
 pub returns : goal.returns

@@ -2,7 +2,6 @@
 use mathlib.Core.Bool.{not}
 use mathlib.Core.Path.{ap}
 use borrow.Author.Tests.{lt-ltb, le-ltb}
-use borrow.Author.Rules.{rules}
 use Rattle.batch.specs.Tally.{at_most_loads}
 use Rattle.batch.proofs.tally.at_most_loads.Goals as goal
 

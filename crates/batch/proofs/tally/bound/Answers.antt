@@ -1,7 +1,6 @@
 -- `bound`: a debug log; an unset stamp; mode largest; mode first.
 use borrow.Author.Tests.{eq-eqb, ne_eqb}
 use Rattle.batch.specs.Tally.{bound_for}
-use borrow.Author.Rules.{rules}
 use Rattle.batch.proofs.tally.bound.Goals as goal
 
 pub returns-then-triggers : goal.returns-then-triggers

@@ -1,11 +1,9 @@
 -- `bounds`: the counters below n have their bound.
 use mathlib.Core.Path.{◌≡◌, refl, sym, ◌∙◌}
-use Prim.Native.Nat.{ℕ, ◌-◌, ◌≤◌, ◌<◌}
 use native.Mathlib.Omega.{arith}
-use lib.ListN.{length, get_or, get_or-replicate}
+use lib.ListN.{get_or-replicate}
 use lib.Seq.{get_or-set_other}
-use Rattle.batch.specs.Tally.{counter_bound}
-use Rattle.batch.proofs.tally.Laws.{Filled, filled_more, no-bounds, all-bounds}
+use Rattle.batch.proofs.tally.Laws.{filled_more, no-bounds, all-bounds}
 use borrow.Author.Rules.{rules}
 use Rattle.batch.proofs.tally.bounds.Goals as goal
 
@@ -13,8 +11,7 @@ pub returns-then-unordered : goal.returns-then-unordered
 returns-then-unordered c = no-bounds _ (sym c.unordered.ensures ∙ c.if-unordered.true)
 
 pub loop-n-init : goal.loop-n-init
-loop-n-init c =
-    (
+loop-n-init c = (
   refl,
   refl,
   search rules,
@@ -24,17 +21,16 @@ loop-n-init c =
 )
 
 pub loop-n-preserved : goal.loop-n-preserved
-loop-n-preserved c =
-    (
-      c.loop-n.invariant.0,
-      c.loop-n.invariant.1,
-      search rules,
-      search rules,
-      filled_more _ c.loop-n.bounds c.loop-n.n _ c.loop-n.invariant.4 (search rules) (rw (c.loop-n.invariant.0, c.loop-n.invariant.1) at c.bound.ensures),
-      λ place from h.
-          get_or-set_other c.loop-n.bounds c.loop-n.n place _ 0 (λ e. omega (arith, e, c.loop-n-test.true)) ∙
-          c.loop-n.invariant.5 place from h,
-    )
+loop-n-preserved c = (
+  c.loop-n.invariant.0,
+  c.loop-n.invariant.1,
+  search rules,
+  search rules,
+  filled_more _ c.loop-n.bounds c.loop-n.n _ c.loop-n.invariant.4 (search rules) (rw (c.loop-n.invariant.0, c.loop-n.invariant.1) at c.bound.ensures),
+  λ place from h.
+      get_or-set_other c.loop-n.bounds c.loop-n.n place _ 0 (λ e. omega (arith, e, c.loop-n-test.true)) ∙
+      c.loop-n.invariant.5 place from h,
+)
 
 pub returns : goal.returns
 returns c =

@@ -1,12 +1,9 @@
 -- `bounds`: the counters below n have their bound.
-use mathlib.Core.Path.{◌≡◌, refl, sym, ◌∙◌}
+use mathlib.Core.Path.{◌≡◌}
 use Prim.Native.Nat.{ℕ, ◌-◌, ◌≤◌, ◌<◌}
-use native.Mathlib.Omega.{arith}
-use lib.ListN.{length, get_or, get_or-replicate}
-use lib.Seq.{get_or-set_other}
+use lib.ListN.{length, get_or}
 use Rattle.batch.specs.Tally.{counter_bound}
-use Rattle.batch.proofs.tally.Laws.{Filled, filled_more, no-bounds, all-bounds}
-use borrow.Author.Rules.{rules}
+use Rattle.batch.proofs.tally.Laws.{Filled}
 use Rattle.batch.proofs.tally.bounds.Given as goal
 
 abbrev pub invariant-loop-n : goal.invariant-loop-n

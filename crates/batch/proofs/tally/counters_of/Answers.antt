@@ -1,11 +1,10 @@
 -- `counters_of`: those below n are taken.
 use mathlib.Core.Path.{◌≡◌, sym, ◌∙◌}
-use Prim.Native.Nat.{ℕ, ◌≤◌, ◌-◌}
 use native.Mathlib.Omega.{arith}
-use lib.ListN.{length, get_or, length-map}
+use lib.ListN.{length, length-map}
 use Rattle.rules.specs.Counting.{held}
 use Rattle.batch.specs.Tally.{held_all}
-use Rattle.batch.proofs.tally.Laws.{Filled, filled_more, held_at, the-counters}
+use Rattle.batch.proofs.tally.Laws.{filled_more, held_at, the-counters}
 use borrow.Author.Rules.{rules}
 use Rattle.batch.proofs.tally.counters_of.Goals as goal
 

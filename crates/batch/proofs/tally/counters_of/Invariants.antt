@@ -1,12 +1,9 @@
 -- `counters_of`: those below n are taken.
-use mathlib.Core.Path.{◌≡◌, sym, ◌∙◌}
+use mathlib.Core.Path.{◌≡◌}
 use Prim.Native.Nat.{ℕ, ◌≤◌, ◌-◌}
-use native.Mathlib.Omega.{arith}
-use lib.ListN.{length, get_or, length-map}
-use Rattle.rules.specs.Counting.{held}
+use lib.ListN.{length, get_or}
 use Rattle.batch.specs.Tally.{held_all}
-use Rattle.batch.proofs.tally.Laws.{Filled, filled_more, held_at, the-counters}
-use borrow.Author.Rules.{rules}
+use Rattle.batch.proofs.tally.Laws.{Filled}
 use Rattle.batch.proofs.tally.counters_of.Given as goal
 
 abbrev pub invariant-loop-n : goal.invariant-loop-n

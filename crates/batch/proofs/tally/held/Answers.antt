@@ -1,6 +1,5 @@
 -- `held`: below the top, and from it on.
 use native.Mathlib.Omega.{arith}
-use borrow.Author.Rules.{rules}
 use Rattle.batch.proofs.tally.held.Goals as goal
 
 pub returns-then-count : goal.returns-then-count

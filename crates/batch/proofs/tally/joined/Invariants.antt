@@ -1,14 +1,9 @@
 -- `joined`: those of the counters below n are there, before those below threshold A, and none is above the top.
-use mathlib.Core.Path.{◌≡◌, refl, ◌∙◌}
-use Prim.Native.Nat.{ℕ, ◌≤◌, ◌<◌, ◌-◌}
-use native.Mathlib.Omega.{arith}
-use lib.ListN.{length, get_or, take, drop, length-map}
-use lib.Seq.{take_all, drop-set-lt}
-use Rattle.rules.specs.Counting.{held}
+use mathlib.Core.Path.{◌≡◌}
+use Prim.Native.Nat.{ℕ, ◌≤◌, ◌-◌}
+use lib.ListN.{length, get_or, take, drop}
 use Rattle.batch.specs.Tally.{held_all, AtMost}
-use Rattle.batch.proofs.Counts.{at-most-set, three-at-most}
-use Rattle.batch.proofs.tally.Laws.{Filled, filled_more, held-set, the-counters, first_three}
-use borrow.Author.Rules.{rules}
+use Rattle.batch.proofs.tally.Laws.{Filled}
 use Rattle.batch.proofs.tally.joined.Given as goal
 
 abbrev pub invariant-loop-n : goal.invariant-loop-n

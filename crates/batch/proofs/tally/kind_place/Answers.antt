@@ -1,7 +1,6 @@
 -- `kind_place`: of a kind, of none, and disabled.
 use borrow.Author.Tests.{lt-ltb, le-ltb}
 use Rattle.batch.specs.Tally.{kind_place}
-use borrow.Author.Rules.{rules}
 use Rattle.batch.proofs.tally.kind_place.Goals as goal
 
 pub returns-then-kind-lt-NO_KIND : goal.returns-then-kind-lt-NO_KIND

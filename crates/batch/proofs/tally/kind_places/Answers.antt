@@ -1,14 +1,13 @@
 -- `kind_places`: the codes below i have their place.
 use mathlib.Core.Bool.{Bool, true, false}
 use mathlib.Core.Path.{◌≡◌, refl, sym, ◌∙◌}
-use Prim.Native.Nat.{ℕ, ◌≤◌, ◌<◌, ◌-◌}
 use native.Mathlib.Omega.{arith}
 use borrow.Author.Tests.{ltb-true, ltb-false}
 use lib.Dec.{ltb}
-use lib.ListN.{length, get_or, get_or-replicate}
+use lib.ListN.{get_or, get_or-replicate}
 use lib.Seq.{get_or-set_other}
 use Rattle.batch.specs.Tally.{code_of, kind_place}
-use Rattle.batch.proofs.tally.Laws.{Filled, filled_more, command_at, no_kind, same_place}
+use Rattle.batch.proofs.tally.Laws.{filled_more, no_kind, same_place}
 use Rattle.batch.proofs.Counts.{kindless-place}
 use borrow.Author.Rules.{rules}
 use Rattle.batch.proofs.tally.kind_places.Goals as goal
@@ -17,13 +16,12 @@ pub loop-i-init : goal.loop-i-init
 loop-i-init c = (search rules, search rules, λ j h. absurd (omega arith), λ code h few. get_or-replicate 512 code 15 0 few)
 
 pub loop-i-preserved : goal.loop-i-preserved
-loop-i-preserved c =
-    (
-      search rules,
-      search rules,
-      filled_more _ c.loop-i.places c.loop-i.i _ c.loop-i.invariant.2 (search rules) c.kind_place.ensures,
-      λ code h few. get_or-set_other c.loop-i.places c.loop-i.i code _ 0 (λ e. omega arith) ∙ c.loop-i.invariant.3 code (omega arith) few,
-    )
+loop-i-preserved c = (
+  search rules,
+  search rules,
+  filled_more _ c.loop-i.places c.loop-i.i _ c.loop-i.invariant.2 (search rules) c.kind_place.ensures,
+  λ code h few. get_or-set_other c.loop-i.places c.loop-i.i code _ 0 (λ e. omega arith) ∙ c.loop-i.invariant.3 code (omega arith) few,
+)
 
 pub returns : goal.returns
 returns c command few =

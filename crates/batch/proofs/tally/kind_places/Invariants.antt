@@ -1,16 +1,9 @@
 -- `kind_places`: the codes below i have their place.
-use mathlib.Core.Bool.{Bool, true, false}
-use mathlib.Core.Path.{◌≡◌, refl, sym, ◌∙◌}
+use mathlib.Core.Path.{◌≡◌}
 use Prim.Native.Nat.{ℕ, ◌≤◌, ◌<◌, ◌-◌}
-use native.Mathlib.Omega.{arith}
-use borrow.Author.Tests.{ltb-true, ltb-false}
-use lib.Dec.{ltb}
-use lib.ListN.{length, get_or, get_or-replicate}
-use lib.Seq.{get_or-set_other}
-use Rattle.batch.specs.Tally.{code_of, kind_place}
-use Rattle.batch.proofs.tally.Laws.{Filled, filled_more, command_at, no_kind, same_place}
-use Rattle.batch.proofs.Counts.{kindless-place}
-use borrow.Author.Rules.{rules}
+use lib.ListN.{length, get_or}
+use Rattle.batch.specs.Tally.{kind_place}
+use Rattle.batch.proofs.tally.Laws.{Filled, command_at}
 use Rattle.batch.proofs.tally.kind_places.Given as goal
 
 abbrev pub invariant-loop-i : goal.invariant-loop-i

@@ -1,5 +1,4 @@
 -- `stamped`: the stamp is loaded; it is not; the completion does more, or has no counter.
-use borrow.Author.Rules.{rules}
 use Rattle.batch.specs.Tally.{stamped_by}
 use Rattle.batch.proofs.tally.stamped.Goals as goal
 

@@ -1,5 +1,4 @@
 -- `with_active`: both parts of the counts are the array's.
-use borrow.Author.Rules.{rules}
 use Rattle.batch.proofs.tally.with_active.Goals as goal
 
 pub returns : goal.returns

@@ -1,9 +1,9 @@
 -- `load`: from the highest byte down, what is loaded is the number of the bytes passed.
 use mathlib.Core.Path.{◌≡◌}
-use Prim.Native.Nat.{◌+◌, ◌-◌, ◌*◌, ◌<◌, ◌≤◌}
+use Prim.Native.Nat.{◌+◌, ◌-◌, ◌*◌, ◌<◌}
 use native.Mathlib.Omega.{arith}
 use borrow.Author.Rules.{rules}
-use lib.ListN.{length, take, drop}
+use lib.ListN.{take, drop}
 use Rattle.endian.specs.Loads.{number}
 use Rattle.endian.proofs.Numbers.{none_left, one_lower, fits}
 use Rattle.endian.proofs.loads.load.Goals.{After-wide}

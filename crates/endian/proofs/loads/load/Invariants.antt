@@ -1,11 +1,8 @@
 -- `load`: from the highest byte down, what is loaded is the number of the bytes passed.
 use mathlib.Core.Path.{◌≡◌}
-use Prim.Native.Nat.{◌+◌, ◌-◌, ◌*◌, ◌<◌, ◌≤◌}
-use native.Mathlib.Omega.{arith}
-use borrow.Author.Rules.{rules}
+use Prim.Native.Nat.{◌-◌, ◌≤◌}
 use lib.ListN.{length, take, drop}
 use Rattle.endian.specs.Loads.{number}
-use Rattle.endian.proofs.Numbers.{none_left, one_lower, fits}
 use Rattle.endian.proofs.loads.load.Given as goal
 
 abbrev pub invariant-loop-i : goal.invariant-loop-i

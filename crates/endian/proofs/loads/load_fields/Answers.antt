@@ -1,11 +1,7 @@
 -- `load_fields`: the fields that are left, stored from here, give them all.
-use mathlib.Core.Path.{◌≡◌, refl}
-use Prim.Native.Nat.{◌≤◌, ◌-◌, min}
+use mathlib.Core.Path.{refl}
 use native.Mathlib.Omega.{arith}
 use borrow.Author.Rules.{rules}
-use lib.ListN.{length, take, drop}
-use lib.Seq.{sets}
-use Rattle.endian.specs.Loads.{values_at}
 use Rattle.endian.specs.Stores.{total}
 use Rattle.endian.proofs.loads.Laws.{values-more, place-more, values-end}
 use Rattle.endian.proofs.loads.load_fields.Goals as goal
@@ -15,13 +11,12 @@ unfolding total
 loop-i-init c = (search rules, search rules, omega arith, refl)
 
 pub loop-i-preserved : goal.loop-i-preserved
-loop-i-preserved c =
-    (
-      search rules,
-      search rules,
-      place-more c.args.s.now c.args.widths.now c.loop-i.i c.loop-i.place _ (search rules) c.loop-i.invariant.2 c.end_of-end.ensures,
-      values-more c.args.s.now c.args.widths.now c.loop-i.i _ _ c.loop-i.place _ _ (search rules) c.loop-i.invariant.2 c.end_of-end.ensures c.load.ensures c.loop-i.invariant.3,
-    )
+loop-i-preserved c = (
+  search rules,
+  search rules,
+  place-more c.args.s.now c.args.widths.now c.loop-i.i c.loop-i.place _ (search rules) c.loop-i.invariant.2 c.end_of-end.ensures,
+  values-more c.args.s.now c.args.widths.now c.loop-i.i _ _ c.loop-i.place _ _ (search rules) c.loop-i.invariant.2 c.end_of-end.ensures c.load.ensures c.loop-i.invariant.3,
+)
 
 pub returns : goal.returns
 returns c = values-end c.args.s.now c.args.widths.now c.loop-i.i _ _ (search rules) c.loop-i.invariant.3

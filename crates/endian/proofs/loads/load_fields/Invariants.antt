@@ -1,13 +1,10 @@
 -- `load_fields`: the fields that are left, stored from here, give them all.
-use mathlib.Core.Path.{◌≡◌, refl}
+use mathlib.Core.Path.{◌≡◌}
 use Prim.Native.Nat.{◌≤◌, ◌-◌, min}
-use native.Mathlib.Omega.{arith}
-use borrow.Author.Rules.{rules}
 use lib.ListN.{length, take, drop}
 use lib.Seq.{sets}
 use Rattle.endian.specs.Loads.{values_at}
 use Rattle.endian.specs.Stores.{total}
-use Rattle.endian.proofs.loads.Laws.{values-more, place-more, values-end}
 use Rattle.endian.proofs.loads.load_fields.Given as goal
 
 abbrev pub invariant-loop-i : goal.invariant-loop-i

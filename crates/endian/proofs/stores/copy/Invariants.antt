@@ -1,10 +1,8 @@
 -- `copy`: what is left of the bytes, stored from here, gives them all.
 use mathlib.Core.Path.{◌≡◌}
 use Prim.Native.Nat.{◌≤◌, ◌-◌}
-use borrow.Author.Rules.{rules}
 use lib.ListN.{length, drop}
 use lib.Seq.{sets}
-use Rattle.endian.proofs.stores.Laws.{copy_more, copy-end}
 use Rattle.endian.proofs.stores.copy.Given as goal
 
 abbrev pub invariant-loop-i : goal.invariant-loop-i

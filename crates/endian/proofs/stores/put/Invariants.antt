@@ -1,11 +1,9 @@
 -- `put`: what is left of the number, stored from here, gives the whole.
 use mathlib.Core.Path.{◌≡◌}
 use Prim.Native.Nat.{◌≤◌, ◌-◌}
-use borrow.Author.Rules.{rules}
 use lib.ListN.{length}
 use lib.Seq.{sets}
 use Rattle.endian.specs.Stores.{low_first}
-use Rattle.endian.proofs.stores.Laws.{put-start, put-more, put-end}
 use Rattle.endian.proofs.stores.put.Given as goal
 
 abbrev pub invariant-loop-i : goal.invariant-loop-i

@@ -1,11 +1,9 @@
 -- `put_fields`: the fields that are left, stored from here, give the whole.
 use mathlib.Core.Path.{◌≡◌}
 use Prim.Native.Nat.{◌≤◌, ◌-◌}
-use borrow.Author.Rules.{rules}
 use lib.ListN.{length, drop}
 use lib.Seq.{sets}
 use Rattle.endian.specs.Stores.{fields}
-use Rattle.endian.proofs.stores.Laws.{fields-more, fields-end}
 use Rattle.endian.proofs.stores.put_fields.Given as goal
 
 abbrev pub invariant-loop-i : goal.invariant-loop-i

@@ -1,6 +1,4 @@
 -- `end_line`: a refused line where bytes are left over, and none else.
-use Rattle.std.proofs.Common.{sym, ap, ◌∙◌, rules}
-use Rattle.rules.specs.Answers.{says_answer}
 use Rattle.events.proofs.blocks.Laws.{some-line, none-line}
 use Rattle.events.proofs.blocks.end_line.Goals as goal
 

@@ -1,5 +1,5 @@
 -- `put_line`: the line's bytes are copied to their place.
-use Rattle.std.proofs.Common.{sym, arith, length-take-le, rules}
+use Rattle.std.proofs.Common.{sym, arith, length-take-le}
 use Rattle.events.proofs.blocks.Laws.{line-put}
 use Rattle.events.proofs.blocks.put_line.Goals as goal
 

@@ -1,5 +1,4 @@
 -- `replay_block`: the records that have room are those of a part of the input.
-use Rattle.std.proofs.Common.{rules}
 use Rattle.events.specs.Blocks.{with_room}
 use Rattle.events.proofs.blocks.Laws.{has_room}
 use Rattle.events.proofs.blocks.replay_block.Goals as goal

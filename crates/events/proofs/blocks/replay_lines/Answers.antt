@@ -1,9 +1,9 @@
 -- `replay_lines`: before each run, the monitor is what the records before it leave, and their lines are stored.
-use Rattle.std.proofs.Common.{◌+◌, ◌-◌, ◌*◌, sym, refl, ap, ◌∙◌, arith, rules}
+use Rattle.std.proofs.Common.{◌+◌, ◌*◌, sym, refl, ap, ◌∙◌, arith, rules}
 use borrow.Author.Rules.{part_to_end}
 use Rattle.monitor.specs.Calls.{play_from}
 use Rattle.text.proofs.Storing.{same-room}
-use Rattle.events.specs.Files.{whole_records, calls_before, says_halt}
+use Rattle.events.specs.Files.{calls_before, says_halt}
 use Rattle.events.proofs.files.Laws.{Replayed, skipped, replayed}
 use Rattle.events.proofs.blocks.Laws.{Told, told_none, told_line, told-all}
 use Rattle.events.proofs.blocks.replay_lines.Goals.{After-slice_known-in-Refused-1, In-Refused}

@@ -1,5 +1,5 @@
 -- `explained_line`: a reason, a refusal, and a record that was not reached.
-use Rattle.std.proofs.Common.{◌≡◌, sym, ap, ◌∙◌, rules}
+use Rattle.std.proofs.Common.{◌≡◌, sym, ap, ◌∙◌}
 use Rattle.text.specs.Lines.{as_line}
 use Rattle.events.specs.declared.answers.Explained.{Explained}
 use Rattle.events.specs.Explain.{says_explained, at_end, said_line}

@@ -1,7 +1,6 @@
 -- `record_said`: a completion, and any other record.
 use mathlib.Core.Option.{some}
-use Rattle.std.proofs.Common.{sym, ap, ◌∙◌, rules}
-use Rattle.events.specs.Explain.{reason}
+use Rattle.std.proofs.Common.{sym, ap, ◌∙◌}
 use Rattle.events.proofs.explain.Laws.{completion-said, other-said}
 use Rattle.records.proofs.Laws.{completion-call}
 use Rattle.events.proofs.explain.record_said.Goals as goal

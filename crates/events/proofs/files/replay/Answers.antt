@@ -1,8 +1,8 @@
 -- `replay`: before each run, the monitor is what the records before it leave.
-use Rattle.std.proofs.Common.{◌+◌, ◌-◌, ◌*◌, sym, refl, ap, ◌∙◌, arith, rules}
+use Rattle.std.proofs.Common.{◌+◌, ◌*◌, sym, refl, ap, ◌∙◌, arith, rules}
 use borrow.Author.Rules.{part_to_end}
 use Rattle.monitor.specs.Calls.{play_from}
-use Rattle.events.specs.Files.{whole_records, calls_before, says_halt}
+use Rattle.events.specs.Files.{calls_before, says_halt}
 use Rattle.events.proofs.files.Laws.{Replayed, skipped, replayed}
 use Rattle.events.proofs.files.replay.Goals.{In-Refused}
 use Rattle.events.proofs.files.replay.Goals as goal

@@ -1,10 +1,7 @@
 -- `run`: before each record, none was refused and the monitor is what the records before it leave.
-use Rattle.std.proofs.Common.{◌+◌, ◌-◌, sym, ap, ◌∙◌, arith, rules}
-use Rattle.records.specs.Records.{says_record}
+use Rattle.std.proofs.Common.{◌-◌}
 use Rattle.events.specs.Files.{whole_records}
-use Rattle.records.proofs.Laws.{refusal-named, let_through}
-use Rattle.events.proofs.files.Laws.{Ran, the-record, behind, few-behind, started, went_on}
-use Rattle.events.proofs.files.Laws.{ran-far, stopped, ended}
+use Rattle.events.proofs.files.Laws.{Ran}
 use Rattle.events.proofs.files.run.Given as goal
 
 abbrev pub invariant-loop-i : goal.invariant-loop-i

@@ -1,6 +1,6 @@
 -- `stretch`: the monitor with the active window that is kept apart is what the records so far leave.
 use mathlib.Core.Option.{some}
-use Rattle.std.proofs.Common.{◌≡◌, ℕ, ◌+◌, ◌-◌, ◌<◌, get_or, sym, refl, ◌∙◌, arith, rules}
+use Rattle.std.proofs.Common.{◌≡◌, ℕ, ◌+◌, ◌<◌, get_or, sym, refl, ◌∙◌, arith, rules}
 use Rattle.monitor.specs.Calls.{completion, play_from}
 use Rattle.records.specs.Records.{call_of}
 use Rattle.events.specs.Files.{record_at, calls_before}
@@ -9,7 +9,7 @@ use Rattle.batch.specs.Tally.{code_of}
 use Rattle.batch.proofs.Counts.{few-counters}
 use Rattle.records.proofs.Laws.{completion-call}
 use Rattle.events.proofs.files.Laws.{the-record, sixteen}
-use Rattle.events.proofs.stretch.Laws.{Stretched, stretch-ends, added, begins, one-counted, one-stamped}
+use Rattle.events.proofs.stretch.Laws.{stretch-ends, added, begins, one-counted, one-stamped}
 use Rattle.events.proofs.stretch.Laws.{time-went-on}
 use Rattle.events.proofs.stretch.stretch.Goals.{After-code, After-counter_at-n, In-loop-i}
 use Rattle.events.proofs.stretch.stretch.Goals as goal
@@ -47,11 +47,10 @@ pub bounds-buckets-bucket : goal.bounds-buckets-bucket
 bounds-buckets-bucket c = omega (arith, bucket-few _ _ _ c.bucket.ensures)
 
 pub code-requires : goal.code-requires
-code-requires c =
-    (
-      sixteen _ c.loop-i.i (omega (arith, c.loop-i-test.true, c.loop-i.invariant.within)),
-      sym c.is_completion.ensures ∙ c.if-is_completion.true,
-    )
+code-requires c = (
+  sixteen _ c.loop-i.i (omega (arith, c.loop-i-test.true, c.loop-i.invariant.within)),
+  sym c.is_completion.ensures ∙ c.if-is_completion.true,
+)
 
 -- the code is that of the record's command
 its-code :

@@ -3,7 +3,6 @@ use mathlib.Core.List.{List}
 use mathlib.Core.Option.{none, some}
 use mathlib.Core.Path.{◌≡◌, sym, ap, ◌∙◌}
 use Prim.Native.Nat.{ℕ}
-use borrow.Author.Rules.{rules}
 use Rattle.logpage.specs.Answers.{refusal_in}
 use Rattle.logpage.specs.Reader.{read_refusal, reading_of}
 use Rattle.logpage.specs.declared.reader.Reading.{Reading}
@@ -28,10 +27,12 @@ read_whole old r page e reading = (rw (reading, e), rw e)
 
 pub returns-in-Refused : goal.returns-in-Refused
 returns-in-Refused c =
-    let refusal = sym c.read-read.ensures.answer ∙ ap refusal_in c.said-1.given.1 in
-    turned-away _ _ _ refusal
+    let refusal = sym c.read-read.ensures.answer ∙ ap refusal_in c.in-Refused.is in
+    let said = turned-away c.args.old c.args.page.now c.in-Refused.number refusal in
+    record { next = said.0; answer = said.1 }
 
 pub returns-in-Done : goal.returns-in-Done
 returns-in-Done c =
-    let refusal = sym c.read-read.ensures.answer ∙ ap refusal_in c.enum_told-1.given.1 in
-    read_whole _ _ _ refusal c.read-read.ensures.reading
+    let refusal = sym c.read-read.ensures.answer ∙ ap refusal_in c.in-Done.is in
+    let said = read_whole c.args.old c.read-read.result.reading c.args.page.now refusal c.read-read.ensures.reading in
+    record { next = said.0; answer = said.1 }

@@ -1,5 +1,4 @@
 -- `write_head`: its fields are the bytes.
-use borrow.Author.Rules.{rules}
 use Rattle.logpage.proofs.page.Laws.{head-run}
 use Rattle.logpage.proofs.page.write_head.Goals as goal
 

@@ -1,5 +1,4 @@
 -- `write_tail`: its fields are the bytes.
-use borrow.Author.Rules.{rules}
 use Rattle.logpage.proofs.page.Laws.{tail-run}
 use Rattle.logpage.proofs.page.write_tail.Goals as goal
 

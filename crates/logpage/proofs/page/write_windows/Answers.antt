@@ -1,5 +1,4 @@
 -- `write_windows`: a block, zeros, a block, zeros.
-use borrow.Author.Rules.{rules}
 use Rattle.logpage.proofs.page.Laws.{windows-run}
 use Rattle.logpage.proofs.page.write_windows.Goals as goal
 

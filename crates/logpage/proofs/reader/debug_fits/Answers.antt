@@ -2,7 +2,6 @@
 use borrow.Author.Tests.{eq-eqb, ne_eqb}
 use Rattle.window.specs.Fields.{unset}
 use Rattle.logpage.specs.Reader.{debug_fits}
-use borrow.Author.Rules.{rules}
 use Rattle.logpage.proofs.reader.debug_fits.Goals as goal
 
 pub returns-then-d-eq-UNSET : goal.returns-then-d-eq-UNSET

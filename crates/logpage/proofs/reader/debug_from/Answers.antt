@@ -1,6 +1,5 @@
 -- `debug_from`: each value has no more bytes than its field.
 use native.Mathlib.Omega.{arith}
-use borrow.Author.Rules.{rules}
 use Rattle.logpage.proofs.reader.debug_from.Goals as goal
 
 pub overflow_cast-result : goal.overflow_cast-result

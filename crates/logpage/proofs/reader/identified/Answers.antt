@@ -1,6 +1,5 @@
 -- `identified`: version and GUID, one by one.
 use Rattle.logpage.specs.Reader.{identified}
-use borrow.Author.Rules.{rules}
 use Rattle.logpage.proofs.reader.identified.Goals as goal
 
 pub returns : goal.returns

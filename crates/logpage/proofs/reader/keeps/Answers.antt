@@ -1,6 +1,5 @@
 -- `keeps`: the rules of the layout, one by one.
 use Rattle.logpage.proofs.reader.Laws.{page-kept}
-use borrow.Author.Rules.{rules}
 use Rattle.logpage.proofs.reader.keeps.Goals as goal
 
 pub returns : goal.returns

@@ -13,11 +13,10 @@ use Rattle.logpage.proofs.reader.read_identified.Goals as goal
 fits :
     (c : goal.After-tail_in-tail) →
     Bounded head_widths c.head_in-head.result × Bounded tail_widths c.tail_in-tail.result
-fits c =
-    (
-      part-bounded head_widths c.args.page.now _ 0 13 (λ k. omega (arith, c.shared_slice_known-1.given k)) c.head_in-head.ensures,
-      part-bounded tail_widths c.args.page.now _ 448 17 (λ k. omega (arith, c.shared_slice_known-1.given k)) c.tail_in-tail.ensures,
-    )
+fits c = (
+  part-bounded head_widths c.args.page.now _ 0 13 (λ k. omega (arith, c.shared_slice_known-1.given k)) c.head_in-head.ensures,
+  part-bounded tail_widths c.args.page.now _ 448 17 (λ k. omega (arith, c.shared_slice_known-1.given k)) c.tail_in-tail.ensures,
+)
 
 pub keeps-requires : goal.keeps-requires
 keeps-requires c = (search rules, (fits (goal.at.keeps-requires c).After-tail_in-tail).1)

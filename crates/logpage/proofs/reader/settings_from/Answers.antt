@@ -1,6 +1,5 @@
 -- `settings_from`: each value has no more bytes than its field.
 use native.Mathlib.Omega.{arith}
-use borrow.Author.Rules.{rules}
 use Rattle.logpage.proofs.reader.settings_from.Goals as goal
 
 pub overflow_cast-thresholds : goal.overflow_cast-thresholds

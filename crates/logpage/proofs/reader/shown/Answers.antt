@@ -1,6 +1,5 @@
 -- `shown`: the debug log's own facts beside the fields.
 use Rattle.logpage.specs.Reader.{shown, holds_debug}
-use borrow.Author.Rules.{rules}
 use Rattle.logpage.proofs.reader.shown.Goals as goal
 
 pub returns : goal.returns

@@ -1,5 +1,4 @@
 -- `tail_fits`: the rules of the last fields, one by one.
-use borrow.Author.Rules.{rules}
 use Rattle.logpage.proofs.reader.tail_fits.Goals as goal
 
 pub returns : goal.returns

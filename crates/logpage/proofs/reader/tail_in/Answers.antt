@@ -4,7 +4,6 @@ use lib.ListN.{replicate}
 use Rattle.endian.specs.Loads.{values_at}
 use Rattle.endian.proofs.Runs.{sets-whole}
 use Rattle.logpage.specs.Reader.{tail_in}
-use borrow.Author.Rules.{rules}
 use Rattle.logpage.proofs.reader.tail_in.Goals as goal
 
 pub returns : goal.returns

@@ -1,15 +1,13 @@
 -- `apply`: no record; and by the record's kind, the answer of its call.
 use mathlib.Core.Path.{refl, sym, ◌∙◌}
 use Rattle.records.proofs.records.Laws.{stands-for, stands-for-none, not-sixteen, completion-call}
-use borrow.Author.Rules.{rules}
 use Rattle.records.proofs.calls.apply.Goals as goal
 
 pub elapsed-o-requires : goal.elapsed-o-requires
 elapsed-o-requires c = (c.if-r-ne-RECORD.false, sym c.is_elapsed.ensures ∙ c.if-is_elapsed.true)
 
 pub other-o-requires : goal.other-o-requires
-other-o-requires c =
-    (
+other-o-requires c = (
   c.if-r-ne-RECORD.false,
   sym c.is_completion.ensures ∙ c.if-is_completion.false,
   sym c.is_elapsed.ensures ∙ c.if-is_elapsed.false,

@@ -1,7 +1,6 @@
 -- `of_completion`: each case says the same.
 use mathlib.Core.Path.{sym, ap}
 use Rattle.rules.specs.Answers.{says_completion}
-use borrow.Author.Rules.{rules}
 use Rattle.records.proofs.calls.of_completion.Goals as goal
 
 pub returns-in-Counted : goal.returns-in-Counted

@@ -1,7 +1,6 @@
 -- `of_elapsed`: each case says the same.
 use mathlib.Core.Path.{sym, ap}
 use Rattle.rules.specs.Answers.{says_elapsed}
-use borrow.Author.Rules.{rules}
 use Rattle.records.proofs.calls.of_elapsed.Goals as goal
 
 pub returns-in-Refused : goal.returns-in-Refused

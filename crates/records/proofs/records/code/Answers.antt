@@ -1,7 +1,6 @@
 -- `code`: the attribute of a completion is 0 or 1.
 use native.Mathlib.Omega.{arith}
 use Rattle.records.proofs.records.Laws.{its-attribute, code_is}
-use borrow.Author.Rules.{rules}
 use Rattle.records.proofs.records.code.Goals as goal
 
 pub overflow_cast-result : goal.overflow_cast-result

@@ -1,7 +1,6 @@
 -- `command`: four bytes are loaded whole, and fit.
 use native.Mathlib.Omega.{arith}
 use lib.ListN.{drop}
-use borrow.Author.Rules.{rules}
 use Rattle.records.specs.Records.{command_of}
 use Rattle.records.proofs.records.Laws.{loaded, fits}
 use Rattle.records.proofs.records.command.Goals as goal

@@ -1,5 +1,4 @@
 -- `configured`: what the monitor makes of the record's settings.
-use borrow.Author.Rules.{rules}
 use Rattle.records.proofs.records.configured.Goals as goal
 
 pub returns : goal.returns

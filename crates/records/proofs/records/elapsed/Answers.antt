@@ -1,7 +1,6 @@
 -- `elapsed`: the call that the record stands for.
 use native.Mathlib.Omega.{arith}
 use Rattle.records.proofs.records.Laws.{fits, stands-for, elapsed-call}
-use borrow.Author.Rules.{rules}
 use Rattle.records.proofs.records.elapsed.Goals as goal
 
 pub overflow_cast-load : goal.overflow_cast-load

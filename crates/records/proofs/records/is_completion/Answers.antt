@@ -6,7 +6,6 @@ use lib.Dec.{leb}
 use borrow.Author.Tests.{ne_eqb}
 use Rattle.records.specs.Records.{attribute, is_completion}
 use Rattle.records.proofs.records.Laws.{sum_fits, by-one-sum}
-use borrow.Author.Rules.{rules}
 use Rattle.records.proofs.records.is_completion.Goals.{After-load-then-r-eq-COMPLETION}
 use Rattle.records.proofs.records.is_completion.Goals as goal
 

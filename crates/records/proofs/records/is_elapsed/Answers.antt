@@ -1,6 +1,5 @@
 -- `is_elapsed`: its kind, and the bytes that the kind leaves unnamed.
 use borrow.Author.Tests.{eq-eqb, ne_eqb}
-use borrow.Author.Rules.{rules}
 use Rattle.records.specs.Records.{is_elapsed}
 use Rattle.records.proofs.records.is_elapsed.Goals as goal
 

@@ -1,7 +1,6 @@
 -- `is_kind`: the bytes that the kind leaves unnamed, and then the kind.
 use mathlib.Core.Path.{sym, ◌∙◌}
 use mathlib.Core.Bool.{and-true, and-false}
-use borrow.Author.Rules.{rules}
 use Rattle.records.proofs.records.is_kind.Goals as goal
 
 pub returns-then-clear : goal.returns-then-clear

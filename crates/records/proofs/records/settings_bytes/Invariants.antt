@@ -1,10 +1,8 @@
 -- `settings_bytes`: the bytes passed stand before zeros.
 use mathlib.Core.Path.{◌≡◌}
 use Prim.Native.Nat.{◌≤◌, ◌-◌}
-use borrow.Author.Rules.{rules}
 use lib.ListN.{drop}
-use lib.Seq.{paste, paste-zero}
-use Rattle.records.proofs.records.Laws.{one_byte, thirteen-bytes}
+use lib.Seq.{paste}
 use Rattle.records.proofs.records.settings_bytes.Given as goal
 
 abbrev pub invariant-loop-i : goal.invariant-loop-i

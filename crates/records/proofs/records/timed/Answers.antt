@@ -1,6 +1,5 @@
 -- `timed`: elapsed time, the clock, power-up, and any other record.
 use native.Mathlib.Omega.{arith}
-use borrow.Author.Rules.{rules}
 use Rattle.records.proofs.records.Laws.{fits, timed-elapsed, timed-clock, timed-power-up, timed-standing}
 use Rattle.records.proofs.records.timed.Goals as goal
 

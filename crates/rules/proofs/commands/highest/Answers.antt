@@ -1,8 +1,7 @@
 -- `highest`: the buckets passed were not reached, so the search among those left decides.
-use mathlib.Core.Path.{◌≡◌, sym, ap, ◌∙◌}
+use mathlib.Core.Path.{sym, ap, ◌∙◌}
 use mathlib.Core.List.{◌∷◌, []}
-use Prim.Native.Nat.{◌≤◌}
-use Rattle.rules.specs.Commands.{highest_reached, bucket_number}
+use Rattle.rules.specs.Commands.{bucket_number}
 use Rattle.rules.proofs.commands.Laws.{hit, miss, nothing}
 use borrow.Author.Rules.{rules}
 use Rattle.rules.proofs.commands.highest.Goals as goal

@@ -1,10 +1,8 @@
 -- `highest`: the buckets passed were not reached, so the search among those left decides.
-use mathlib.Core.Path.{◌≡◌, sym, ap, ◌∙◌}
+use mathlib.Core.Path.{◌≡◌}
 use mathlib.Core.List.{◌∷◌, []}
 use Prim.Native.Nat.{◌≤◌}
-use Rattle.rules.specs.Commands.{highest_reached, bucket_number}
-use Rattle.rules.proofs.commands.Laws.{hit, miss, nothing}
-use borrow.Author.Rules.{rules}
+use Rattle.rules.specs.Commands.{highest_reached}
 use Rattle.rules.proofs.commands.highest.Given as goal
 
 abbrev pub invariant-loop-n : goal.invariant-loop-n

@@ -1,6 +1,5 @@
 -- `latency_above`: the definition's own text.
 use native.Mathlib.Omega.{arith}
-use borrow.Author.Rules.{rules}
 use Rattle.rules.specs.Commands.{latency_above}
 use Rattle.rules.proofs.commands.latency_above.Goals as goal
 

@@ -1,9 +1,8 @@
 -- `counted_at`: what stands below i is written.
-use mathlib.Core.Path.{◌≡◌, ◌∙◌}
+use mathlib.Core.Path.{◌≡◌}
 use Prim.Native.Nat.{◌≤◌, ◌-◌}
-use borrow.Author.Rules.{rules}
 use Rattle.rules.specs.Counting.{once_more}
-use Rattle.rules.proofs.counting.Laws.{written, none_written, all-written, write-more}
+use Rattle.rules.proofs.counting.Laws.{written}
 use Rattle.rules.proofs.counting.counted_at.Given as goal
 
 abbrev pub invariant-loop-i : goal.invariant-loop-i

@@ -1,10 +1,8 @@
 -- `counted_below_a`: what stands below i is written.
 use mathlib.Core.Path.{◌≡◌}
 use Prim.Native.Nat.{◌≤◌, ◌-◌}
-use native.Mathlib.Omega.{arith}
-use borrow.Author.Rules.{rules}
 use Rattle.rules.specs.Counting.{once_more}
-use Rattle.rules.proofs.counting.Laws.{written, none_written, write-more}
+use Rattle.rules.proofs.counting.Laws.{written}
 use Rattle.rules.proofs.counting.counted_below_a.Given as goal
 
 abbrev pub invariant-loop-i : goal.invariant-loop-i

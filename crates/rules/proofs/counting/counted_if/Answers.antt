@@ -1,5 +1,4 @@
 -- `counted_if`: the flag is one where the counter is this one and below its top.
-use borrow.Author.Rules.{rules}
 use Rattle.rules.proofs.counting.Laws.{counts, counted-fits}
 use Rattle.rules.proofs.counting.counted_if.Goals.{After-one_if}
 use Rattle.rules.proofs.counting.counted_if.Goals as goal

@@ -1,5 +1,4 @@
 -- `exceeds`: a larger latency, and one that is not.
-use borrow.Author.Rules.{rules}
 use Rattle.rules.proofs.counting.exceeds.Goals as goal
 
 pub returns-then-larger : goal.returns-then-larger

@@ -1,6 +1,5 @@
 -- `loads`: unset; mode largest; mode first.
 use borrow.Author.Tests.{eq-eqb, ne_eqb}
-use borrow.Author.Rules.{rules}
 use Rattle.rules.specs.Counting.{loads}
 use Rattle.rules.proofs.counting.loads.Goals as goal
 

@@ -1,5 +1,4 @@
 -- `logged`: a log that is taken, and the one that was held.
-use borrow.Author.Rules.{rules}
 use Rattle.rules.proofs.counting.logged.Goals as goal
 
 pub returns-then-takes : goal.returns-then-takes

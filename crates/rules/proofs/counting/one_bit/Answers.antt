@@ -2,7 +2,6 @@
 use native.Mathlib.Nat.{one-mul, mod-eq_of_lt}
 use native.Mathlib.Omega.{arith}
 use lib.Pow.{pow-lt}
-use borrow.Author.Rules.{rules}
 use Rattle.rules.proofs.counting.one_bit.Goals as goal
 
 pub returns : goal.returns

@@ -1,7 +1,6 @@
 -- `triggers`: the trigger bit set, and clear.
 use mathlib.Core.Path.{sym, ◌∙◌}
 use Rattle.rules.specs.Counting.{triggers}
-use borrow.Author.Rules.{rules}
 use Rattle.rules.proofs.counting.triggers.Goals as goal
 
 pub returns-then-bit : goal.returns-then-bit

@@ -1,6 +1,5 @@
 -- `after_discard`: discard 1, and 0.
 use borrow.Author.Tests.{eq-eqb, ne_eqb}
-use borrow.Author.Rules.{rules}
 use Rattle.rules.proofs.settings.after_discard.Goals as goal
 
 pub returns-then-discard-eq1 : goal.returns-then-discard-eq1

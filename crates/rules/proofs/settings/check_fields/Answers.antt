@@ -4,7 +4,6 @@ use mathlib.Core.Bool.{false}
 use Rattle.rules.specs.Refusals.{either_above, unordered}
 use Rattle.rules.proofs.settings.Laws.{flags-refused, timer-refused, order-refused, bits-refused}
 use Rattle.rules.proofs.settings.Laws.{fields-accepted}
-use borrow.Author.Rules.{rules}
 use Rattle.rules.proofs.settings.check_fields.Goals.{Else-either_above, Else-unordered}
 use Rattle.rules.proofs.settings.check_fields.Goals as goal
 

@@ -1,6 +1,5 @@
 -- `decode`: each field where the table has it.
 use Rattle.rules.specs.Settings.{decoded}
-use borrow.Author.Rules.{rules}
 use Rattle.rules.proofs.settings.decode.Goals as goal
 
 pub returns : goal.returns

@@ -1,7 +1,6 @@
 -- `encode`: its fields are the bytes.
 use mathlib.Core.Path.{◌∙◌}
 use Rattle.rules.proofs.settings.Laws.{encodes}
-use borrow.Author.Rules.{rules}
 use Rattle.rules.proofs.settings.encode.Goals as goal
 
 pub returns : goal.returns

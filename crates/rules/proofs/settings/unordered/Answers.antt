@@ -1,6 +1,5 @@
 -- `unordered`: the first pair of thresholds that is out of order, or the last pair.
 use borrow.Author.Tests.{lt-ltb, le-ltb}
-use borrow.Author.Rules.{rules}
 use Rattle.rules.proofs.settings.unordered.Goals as goal
 
 pub returns-then-t : goal.returns-then-t

@@ -1,7 +1,6 @@
 -- `ticked`: no step; a step that does not end the window; a step that does; disabled.
 use borrow.Author.Tests.{lt-ltb, le-ltb, le-leb, lt-leb}
 use Rattle.rules.specs.Timer.{ticked}
-use borrow.Author.Rules.{rules}
 use Rattle.rules.proofs.timer.ticked.Goals as goal
 
 pub returns-then-sum : goal.returns-then-sum

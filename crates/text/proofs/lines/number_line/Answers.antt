@@ -1,7 +1,6 @@
 -- `number_line`: the number and the newline are stored in a room of zeros.
 use native.Mathlib.Omega.{arith}
 use Rattle.text.proofs.lines.Laws.{line-number, as_line_lem}
-use borrow.Author.Rules.{rules}
 use Rattle.text.proofs.lines.number_line.Goals as goal
 
 pub returns : goal.returns

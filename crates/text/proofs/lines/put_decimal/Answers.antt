@@ -1,5 +1,4 @@
 -- `put_decimal`: as many digits as the number has.
-use borrow.Author.Rules.{rules}
 use Rattle.text.proofs.lines.Laws.{decimal-stored}
 use Rattle.text.proofs.lines.put_decimal.Goals as goal
 

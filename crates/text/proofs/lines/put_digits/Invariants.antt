@@ -1,11 +1,9 @@
 -- `put_digits`: the digits that are left, stored from the start, give the whole.
 use mathlib.Core.Path.{◌≡◌}
 use Prim.Native.Nat.{◌≤◌}
-use borrow.Author.Rules.{rules}
 use lib.ListN.{length}
 use lib.Seq.{sets}
 use Rattle.text.specs.Lines.{digits}
-use Rattle.text.proofs.lines.Laws.{digits_more, digits-end}
 use Rattle.text.proofs.lines.put_digits.Given as goal
 
 abbrev pub invariant-loop-i : goal.invariant-loop-i

@@ -1,6 +1,5 @@
 -- `put_number`: the space and the digits are one run.
 use native.Mathlib.Omega.{arith}
-use borrow.Author.Rules.{rules}
 use lib.ListN.{length-set}
 use Rattle.text.proofs.Storing.{same-room}
 use Rattle.text.proofs.lines.Laws.{number-stored}

@@ -1,11 +1,9 @@
 -- `put_numbers`: the numbers so far are stored.
 use mathlib.Core.Path.{◌≡◌}
 use Prim.Native.Nat.{◌≤◌, ◌-◌, ◌*◌}
-use borrow.Author.Rules.{rules}
 use lib.ListN.{length, take}
 use Rattle.text.specs.Lines.{spaced}
 use Rattle.text.specs.Stored.{Stored}
-use Rattle.text.proofs.lines.Laws.{numbers_more, numbers-end}
 use Rattle.text.proofs.lines.put_numbers.Given as goal
 
 abbrev pub invariant-loop-i : goal.invariant-loop-i

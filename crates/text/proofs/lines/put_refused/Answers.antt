@@ -2,7 +2,6 @@
 use Rattle.text.specs.Lines.{refused_word}
 use Rattle.text.proofs.Storing.{same-room}
 use Rattle.text.proofs.lines.Laws.{line_refused}
-use borrow.Author.Rules.{rules}
 use Rattle.text.proofs.lines.put_refused.Goals.{After-slice_known-3-1}
 use Rattle.text.proofs.lines.put_refused.Goals as goal
 

@@ -1,9 +1,5 @@
 -- `put_text`: what is left, stored from here, gives the whole.
-use mathlib.Core.Path.{◌≡◌}
-use Prim.Native.Nat.{◌≤◌, ◌+◌, ◌-◌}
 use borrow.Author.Rules.{rules}
-use lib.ListN.{length, drop}
-use lib.Seq.{sets}
 use Rattle.text.proofs.lines.Laws.{text-start, text-more, text-end}
 use Rattle.text.proofs.lines.put_text.Goals as goal
 

@@ -1,7 +1,6 @@
 -- `refused_line`: the line is stored in a room of zeros.
 use native.Mathlib.Omega.{arith}
 use Rattle.text.proofs.lines.Laws.{as_line_lem}
-use borrow.Author.Rules.{rules}
 use Rattle.text.proofs.lines.refused_line.Goals as goal
 
 pub returns : goal.returns

@@ -1,7 +1,6 @@
 -- `refused_record`: the line is stored in a room of zeros.
 use native.Mathlib.Omega.{arith}
 use Rattle.text.proofs.lines.Laws.{as_line_lem}
-use borrow.Author.Rules.{rules}
 use Rattle.text.proofs.lines.refused_record.Goals as goal
 
 pub returns : goal.returns

@@ -1,8 +1,7 @@
 -- `width`: the digits that are left, and those counted, are the number's.
 use native.Mathlib.Omega.{arith}
 use borrow.Author.Rules.{rules}
-use Prim.Native.Nat.{◌-◌}
-use Rattle.text.proofs.lines.Laws.{Wide, width-start, width-more, width-below-ten, width-last}
+use Rattle.text.proofs.lines.Laws.{width-start, width-more, width-below-ten, width-last}
 use Rattle.text.proofs.lines.width.Goals as goal
 
 pub loop-k-init : goal.loop-k-init

@@ -1,8 +1,6 @@
 -- `width`: the digits that are left, and those counted, are the number's.
-use native.Mathlib.Omega.{arith}
-use borrow.Author.Rules.{rules}
 use Prim.Native.Nat.{◌-◌}
-use Rattle.text.proofs.lines.Laws.{Wide, width-start, width-more, width-below-ten, width-last}
+use Rattle.text.proofs.lines.Laws.{Wide}
 use Rattle.text.proofs.lines.width.Given as goal
 
 abbrev pub invariant-loop-k : goal.invariant-loop-k

@@ -1,6 +1,5 @@
 -- `counts_listing`: the lines are stored in a room of zeros.
 use native.Mathlib.Omega.{arith}
-use borrow.Author.Rules.{rules}
 use Rattle.text.proofs.listing.Laws.{as-listing}
 use Rattle.text.proofs.listing.counts_listing.Goals as goal
 

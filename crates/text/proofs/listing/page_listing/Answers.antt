@@ -1,6 +1,5 @@
 -- `page_listing`: the answer says which of the two texts it is.
 use mathlib.Core.Path.{sym, ap, ◌∙◌}
-use borrow.Author.Rules.{rules}
 use Rattle.logpage.specs.Answers.{refusal_in}
 use Rattle.text.proofs.listing.Laws.{page-refused, page-read}
 use Rattle.text.proofs.listing.page_listing.Goals as goal

@@ -1,5 +1,4 @@
 -- `put_counts`: the number, the counts and the newline are one run.
-use borrow.Author.Rules.{rules}
 use Rattle.text.proofs.Storing.{same-room}
 use Rattle.text.proofs.listing.Laws.{line-counts}
 use Rattle.text.proofs.listing.put_counts.Goals.{After-slice_known-3-1}

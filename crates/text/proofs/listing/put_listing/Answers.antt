@@ -1,11 +1,8 @@
 -- `put_listing`: the lines so far are stored, and `at` is their length.
 use mathlib.Core.Path.{◌≡◌}
-use Prim.Native.Nat.{◌≤◌, ◌-◌, ◌*◌}
 use native.Mathlib.Omega.{arith}
 use borrow.Author.Rules.{rules}
-use lib.ListN.{length}
 use Rattle.text.specs.Listing.{counts_lines, listing_of}
-use Rattle.text.specs.Stored.{Stored}
 use Rattle.text.proofs.listing.Laws.{counts_step}
 use Rattle.text.proofs.listing.put_listing.Goals as goal
 
@@ -14,8 +11,7 @@ unfolding counts_lines
 loop-n-init c = search rules
 
 pub loop-n-preserved : goal.loop-n-preserved
-loop-n-preserved c =
-    (
+loop-n-preserved c = (
   search rules,
   search rules,
   counts_step _ _ _ _ _ _ _ _ c.loop-n.invariant.2

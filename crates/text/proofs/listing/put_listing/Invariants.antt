@@ -1,12 +1,9 @@
 -- `put_listing`: the lines so far are stored, and `at` is their length.
 use mathlib.Core.Path.{◌≡◌}
 use Prim.Native.Nat.{◌≤◌, ◌-◌, ◌*◌}
-use native.Mathlib.Omega.{arith}
-use borrow.Author.Rules.{rules}
 use lib.ListN.{length}
-use Rattle.text.specs.Listing.{counts_lines, listing_of}
+use Rattle.text.specs.Listing.{counts_lines}
 use Rattle.text.specs.Stored.{Stored}
-use Rattle.text.proofs.listing.Laws.{counts_step}
 use Rattle.text.proofs.listing.put_listing.Given as goal
 
 abbrev pub invariant-loop-n : goal.invariant-loop-n

@@ -1,6 +1,5 @@
 -- `refused_listing`: the line is stored in a room of zeros.
 use native.Mathlib.Omega.{arith}
-use borrow.Author.Rules.{rules}
 use Rattle.text.proofs.listing.Laws.{as-listing}
 use Rattle.text.proofs.listing.refused_listing.Goals as goal
 

@@ -1,5 +1,4 @@
 -- `hex_digit`: each arm is the definition's.
-use borrow.Author.Rules.{rules}
 use borrow.Author.Tests.{lt-ltb, le-ltb}
 use Rattle.text.specs.Pages.{hex_digit}
 use Rattle.text.proofs.pages.hex_digit.Goals as goal

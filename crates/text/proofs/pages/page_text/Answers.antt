@@ -2,7 +2,6 @@
 use native.Mathlib.Omega.{arith}
 use Rattle.text.proofs.pages.Laws.{as-text}
 use Rattle.text.proofs.Storing.{same-room}
-use borrow.Author.Rules.{rules}
 use Rattle.text.proofs.pages.page_text.Goals as goal
 
 pub returns : goal.returns

@@ -1,12 +1,9 @@
 -- `put_bytes`: what is left, stored from here, gives the whole.
 use mathlib.Core.Path.{◌≡◌}
 use Prim.Native.Nat.{◌≤◌, ◌+◌, ◌-◌, ◌*◌}
-use native.Mathlib.Omega.{arith}
-use borrow.Author.Rules.{rules}
-use lib.ListN.{length, drop, length-set}
+use lib.ListN.{length, drop}
 use lib.Seq.{sets}
 use Rattle.text.specs.Pages.{hex_bytes}
-use Rattle.text.proofs.pages.Laws.{bytes-start, bytes-step, bytes-end}
 use Rattle.text.proofs.pages.put_bytes.Given as goal
 
 abbrev pub invariant-loop-i : goal.invariant-loop-i

@@ -1,8 +1,6 @@
 -- `put_line`: the offset, the bytes and the newline are one run; a line of zeros alone stores nothing.
 use mathlib.Core.Path.{sym, ◌∙◌}
 use Rattle.text.proofs.pages.Laws.{line-stored, line-skipped, line-at, row-length}
-use Rattle.text.proofs.Storing.{same-room}
-use borrow.Author.Rules.{rules}
 use Rattle.text.proofs.pages.put_line.Goals as goal
 
 pub returns-then-any_set : goal.returns-then-any_set

@@ -1,11 +1,8 @@
 -- `put_lines`: the lines so far are stored, and `at` is their length.
 use mathlib.Core.Path.{◌≡◌}
-use Prim.Native.Nat.{◌≤◌, ◌-◌, ◌*◌}
 use native.Mathlib.Omega.{arith}
 use borrow.Author.Rules.{rules}
-use lib.ListN.{length}
 use Rattle.text.specs.Pages.{lines, text_of}
-use Rattle.text.specs.Stored.{Stored}
 use Rattle.text.proofs.pages.Laws.{lines_step}
 use Rattle.text.proofs.pages.put_lines.Goals as goal
 
@@ -14,8 +11,7 @@ unfolding lines
 loop-line-init c = search rules
 
 pub loop-line-preserved : goal.loop-line-preserved
-loop-line-preserved c =
-    (
+loop-line-preserved c = (
   search rules,
   search rules,
   lines_step _ _ _ _ _ _ _ c.loop-line.invariant.2

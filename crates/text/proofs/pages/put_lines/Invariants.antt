@@ -1,12 +1,9 @@
 -- `put_lines`: the lines so far are stored, and `at` is their length.
 use mathlib.Core.Path.{◌≡◌}
 use Prim.Native.Nat.{◌≤◌, ◌-◌, ◌*◌}
-use native.Mathlib.Omega.{arith}
-use borrow.Author.Rules.{rules}
 use lib.ListN.{length}
-use Rattle.text.specs.Pages.{lines, text_of}
+use Rattle.text.specs.Pages.{lines}
 use Rattle.text.specs.Stored.{Stored}
-use Rattle.text.proofs.pages.Laws.{lines_step}
 use Rattle.text.proofs.pages.put_lines.Given as goal
 
 abbrev pub invariant-loop-line : goal.invariant-loop-line

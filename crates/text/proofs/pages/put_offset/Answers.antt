@@ -1,6 +1,5 @@
 -- `put_offset`: five stores, one after another.
 use native.Mathlib.Omega.{arith}
-use borrow.Author.Rules.{rules}
 use lib.ListN.{length-set}
 use Rattle.text.proofs.pages.Laws.{offset-run}
 use Rattle.text.proofs.pages.put_offset.Goals as goal

@@ -1,5 +1,4 @@
 -- `fill`: its four parts, one after the other.
-use borrow.Author.Rules.{rules}
 use Rattle.window.proofs.block.Laws.{block_run}
 use Rattle.window.proofs.block.fill.Goals as goal
 

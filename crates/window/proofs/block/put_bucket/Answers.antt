@@ -1,7 +1,6 @@
 -- `put_bucket`: its four fields are the bucket's bytes.
 use mathlib.Core.List.{[], ◌∷◌}
 use mathlib.Core.Path.{sym, ◌∙◌}
-use borrow.Author.Rules.{rules}
 use Rattle.endian.proofs.Runs.{sets-whole}
 use Rattle.window.proofs.Lengths.{length-column}
 use Rattle.window.proofs.block.put_bucket.Goals as goal

@@ -1,12 +1,9 @@
 -- `put_counters`: a bucket after the other.
 use mathlib.Core.Path.{◌≡◌}
-use Prim.Native.Nat.{◌≤◌, ◌-◌}
 use native.Mathlib.Omega.{arith}
 use borrow.Author.Rules.{rules}
-use lib.ListN.{length}
-use lib.Seq.{sets}
 use Rattle.endian.specs.Stores.{fields}
-use Rattle.window.specs.Block.{buckets, column}
+use Rattle.window.specs.Block.{buckets}
 use Rattle.window.proofs.block.Laws.{buckets-more}
 use Rattle.window.proofs.block.put_counters.Goals as goal
 
@@ -15,14 +12,13 @@ unfolding buckets fields
 loop-b-init c = search rules
 
 pub loop-b-preserved : goal.loop-b-preserved
-loop-b-preserved c =
-    (
-      search rules,
-      search rules,
-      buckets-more c.args.counters _ _ _ c.loop-b.b (search rules) (search rules)
-          c.loop-b.invariant.2
-          c.put_bucket.ensures,
-    )
+loop-b-preserved c = (
+  search rules,
+  search rules,
+  buckets-more c.args.counters _ _ _ c.loop-b.b (search rules) (search rules)
+      c.loop-b.invariant.2
+      c.put_bucket.ensures,
+)
 
 pub returns : goal.returns
 returns c =

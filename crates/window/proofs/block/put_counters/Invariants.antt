@@ -1,13 +1,9 @@
 -- `put_counters`: a bucket after the other.
 use mathlib.Core.Path.{◌≡◌}
 use Prim.Native.Nat.{◌≤◌, ◌-◌}
-use native.Mathlib.Omega.{arith}
-use borrow.Author.Rules.{rules}
 use lib.ListN.{length}
 use lib.Seq.{sets}
-use Rattle.endian.specs.Stores.{fields}
 use Rattle.window.specs.Block.{buckets, column}
-use Rattle.window.proofs.block.Laws.{buckets-more}
 use Rattle.window.proofs.block.put_counters.Given as goal
 
 abbrev pub invariant-loop-b : goal.invariant-loop-b

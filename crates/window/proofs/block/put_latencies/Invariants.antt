@@ -1,12 +1,9 @@
 -- `put_latencies`: what is left, stored from here, gives the whole.
 use mathlib.Core.Path.{◌≡◌}
 use Prim.Native.Nat.{◌≤◌, ◌+◌, ◌*◌, ◌-◌}
-use native.Mathlib.Omega.{arith}
-use borrow.Author.Rules.{rules}
 use lib.ListN.{length}
 use lib.Seq.{sets}
 use Rattle.window.specs.Block.{downward, column}
-use Rattle.window.proofs.block.Laws.{downward-more, downward-end}
 use Rattle.window.proofs.block.put_latencies.Given as goal
 
 abbrev pub invariant-loop-n : goal.invariant-loop-n

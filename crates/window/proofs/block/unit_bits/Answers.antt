@@ -1,11 +1,10 @@
 -- `unit_bits`: the bits from n on.
 use mathlib.Core.Bool.{false}
 use mathlib.Core.Path.{◌≡◌, sym}
-use Prim.Native.Nat.{◌≤◌, ◌-◌}
+use Prim.Native.Nat.{◌-◌}
 use native.Mathlib.Omega.{arith}
 use borrow.Author.Rules.{rules}
-use lib.ListN.{drop, get_or}
-use Rattle.window.specs.Block.{bits}
+use lib.ListN.{get_or}
 use Rattle.window.proofs.block.Laws.{bits_none, bits-more, flag-below, bits_fit}
 use Rattle.window.proofs.block.unit_bits.Goals as goal
 
@@ -22,8 +21,7 @@ pub overflow_add-r : goal.overflow_add-r
 overflow_add-r c = omega (arith, bits_fit c.args.units c.loop-n.n (search rules), flag-below (get_or c.args.units (c.loop-n.n - 1) false))
 
 pub loop-n-preserved : goal.loop-n-preserved
-loop-n-preserved c =
-    (
+loop-n-preserved c = (
   search rules,
   bits-more c.args.units c.loop-n.n _ (search rules) (search rules) c.loop-n.invariant.1,
 )

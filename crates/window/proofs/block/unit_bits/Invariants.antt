@@ -1,12 +1,8 @@
 -- `unit_bits`: the bits from n on.
-use mathlib.Core.Bool.{false}
-use mathlib.Core.Path.{◌≡◌, sym}
-use Prim.Native.Nat.{◌≤◌, ◌-◌}
-use native.Mathlib.Omega.{arith}
-use borrow.Author.Rules.{rules}
-use lib.ListN.{drop, get_or}
+use mathlib.Core.Path.{◌≡◌}
+use Prim.Native.Nat.{◌≤◌}
+use lib.ListN.{drop}
 use Rattle.window.specs.Block.{bits}
-use Rattle.window.proofs.block.Laws.{bits_none, bits-more, flag-below, bits_fit}
 use Rattle.window.proofs.block.unit_bits.Given as goal
 
 abbrev pub invariant-loop-n : goal.invariant-loop-n

@@ -1,5 +1,4 @@
 -- `write_block`: another length, and a block.
-use borrow.Author.Rules.{rules}
 use borrow.Author.Tests.{eq-eqb, ne_eqb}
 use Rattle.window.proofs.block.write_block.Goals as goal
 

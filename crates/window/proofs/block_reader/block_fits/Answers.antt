@@ -1,5 +1,4 @@
 -- `block_fits`: the rules of a block, and another length.
-use borrow.Author.Rules.{rules}
 use borrow.Author.Tests.{eq-eqb, ne_eqb}
 use Rattle.window.specs.BlockReader.{block_fits}
 use Rattle.window.proofs.block_reader.block_fits.Goals as goal

@@ -3,7 +3,6 @@ use mathlib.Core.Path.{refl}
 use native.Mathlib.Omega.{arith}
 use Rattle.endian.proofs.Numbers.{loaded}
 use Rattle.window.proofs.block_reader.Laws.{block-kept}
-use borrow.Author.Rules.{rules}
 use Rattle.window.proofs.block_reader.keeps.Goals as goal
 
 pub returns : goal.returns

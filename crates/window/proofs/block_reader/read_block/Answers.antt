@@ -1,7 +1,6 @@
 -- `read_block`: the arrays, read by their places, are the window's.
 use mathlib.Core.Path.{refl, ◌∙◌}
 use native.Mathlib.Omega.{arith}
-use borrow.Author.Rules.{rules}
 use Rattle.endian.proofs.Numbers.{loaded}
 use Rattle.window.proofs.block_reader.Laws.{block_read}
 use Rattle.window.proofs.block_reader.read_block.Goals as goal

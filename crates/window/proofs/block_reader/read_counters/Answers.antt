@@ -1,10 +1,8 @@
 -- `read_counters`: what is left, stored from here, gives all twelve.
-use Prim.Native.Nat.{◌-◌}
 use native.Mathlib.Omega.{arith}
 use borrow.Author.Rules.{rules}
 use Rattle.endian.proofs.Numbers.{loaded, loaded-fits}
-use Rattle.window.specs.Block.{counter_place}
-use Rattle.window.proofs.block_reader.Laws.{field_of, Filled, fill_start, fill_more, fill_end}
+use Rattle.window.proofs.block_reader.Laws.{fill_start, fill_more, fill_end}
 use Rattle.window.proofs.block_reader.read_counters.Goals as goal
 
 pub loop-n-init : goal.loop-n-init

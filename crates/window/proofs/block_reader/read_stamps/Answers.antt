@@ -1,10 +1,9 @@
 -- `read_stamps`: what is left, stored from here, gives all twelve.
-use Prim.Native.Nat.{◌-◌}
 use native.Mathlib.Omega.{arith}
 use borrow.Author.Rules.{rules}
 use Rattle.endian.proofs.Numbers.{loaded}
 use Rattle.window.specs.Block.{stamp_place}
-use Rattle.window.proofs.block_reader.Laws.{field_of, Filled, fill_start, fill_more, fill_end}
+use Rattle.window.proofs.block_reader.Laws.{fill_start, fill_more, fill_end}
 use Rattle.window.proofs.Table.{by-rule}
 use Rattle.window.proofs.block_reader.read_stamps.Goals as goal
 

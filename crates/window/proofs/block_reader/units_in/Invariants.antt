@@ -1,10 +1,8 @@
 -- `units_in`: the flags that are left, stored from here, give all twelve.
 use mathlib.Core.Path.{◌≡◌}
 use Prim.Native.Nat.{◌≤◌, ◌-◌}
-use borrow.Author.Rules.{rules}
 use lib.Seq.{sets}
 use Rattle.window.specs.Block.{flags}
-use Rattle.window.proofs.block_reader.Laws.{flags-start, flags-more, flags-end}
 use Rattle.window.proofs.block_reader.units_in.Given as goal
 
 abbrev pub invariant-loop-n : goal.invariant-loop-n

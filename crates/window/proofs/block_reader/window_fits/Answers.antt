@@ -1,13 +1,7 @@
 -- `window_fits`: the counters that are left, asked from here, give the answer.
-use mathlib.Core.Bool.{Bool, false}
-use mathlib.Core.Path.{◌≡◌, refl}
-use Prim.Native.Nat.{ℕ, ◌≤◌, ◌-◌}
+use mathlib.Core.Path.{refl}
 use borrow.Author.Rules.{rules}
-use lib.ListN.{get_or}
-use Rattle.window.specs.Tests.{passes}
-use Rattle.window.specs.BlockReader.{counter_fits, window_fits}
-use Rattle.window.specs.Fields.{window_of, from}
-use Rattle.window.specs.declared.fields.Window.{Window}
+use Rattle.window.specs.BlockReader.{window_fits}
 use Rattle.window.proofs.block_reader.Laws.{tested, tests-more, tests-end}
 use Rattle.window.proofs.block_reader.window_fits.Goals as goal
 
@@ -16,11 +10,10 @@ unfolding window_fits
 loop-n-init c = (search rules, refl)
 
 pub loop-n-preserved : goal.loop-n-preserved
-loop-n-preserved c =
-    (
-      search rules,
-      tests-more (tested c.args.w) _ _ c.loop-n.n _ (search rules) c.counter_fits-fits.ensures c.loop-n.invariant.1,
-    )
+loop-n-preserved c = (
+  search rules,
+  tests-more (tested c.args.w) _ _ c.loop-n.n _ (search rules) c.counter_fits-fits.ensures c.loop-n.invariant.1,
+)
 
 pub returns : goal.returns
 returns c = tests-end (tested c.args.w) _ _ c.loop-n.n (search rules) c.loop-n.invariant.1

@@ -1,14 +1,10 @@
 -- `window_fits`: the counters that are left, asked from here, give the answer.
-use mathlib.Core.Bool.{Bool, false}
-use mathlib.Core.Path.{◌≡◌, refl}
-use Prim.Native.Nat.{ℕ, ◌≤◌, ◌-◌}
-use borrow.Author.Rules.{rules}
-use lib.ListN.{get_or}
+use mathlib.Core.Path.{◌≡◌}
+use Prim.Native.Nat.{◌≤◌, ◌-◌}
 use Rattle.window.specs.Tests.{passes}
-use Rattle.window.specs.BlockReader.{counter_fits, window_fits}
+use Rattle.window.specs.BlockReader.{window_fits}
 use Rattle.window.specs.Fields.{window_of, from}
-use Rattle.window.specs.declared.fields.Window.{Window}
-use Rattle.window.proofs.block_reader.Laws.{tested, tests-more, tests-end}
+use Rattle.window.proofs.block_reader.Laws.{tested}
 use Rattle.window.proofs.block_reader.window_fits.Given as goal
 
 abbrev pub invariant-loop-n : goal.invariant-loop-n

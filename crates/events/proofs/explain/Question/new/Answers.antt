@@ -1,5 +1,5 @@
 -- `Question::new`: four bytes are loaded whole, and fit.
-use Rattle.std.proofs.Common.{arith, rules}
+use Rattle.std.proofs.Common.{arith}
 use Rattle.events.proofs.explain.Laws.{asks}
 use Rattle.records.proofs.Laws.{loaded, four-fit}
 use Rattle.events.proofs.explain.Question.new.Goals as goal

@@ -1,5 +1,5 @@
 -- `Question::read`: the part has the record, or ends before it.
-use Rattle.std.proofs.Common.{◌∙◌, rules}
+use Rattle.std.proofs.Common.{◌∙◌}
 use Rattle.events.proofs.explain.Laws.{part-reached, part-passed}
 use Rattle.events.proofs.files.Laws.{the-record}
 use Rattle.events.proofs.explain.Question.read.Goals as goal

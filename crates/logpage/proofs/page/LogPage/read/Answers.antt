@@ -1,6 +1,5 @@
 -- `LogPage::read`, by its three rows.
 use mathlib.Core.Path.{sym, ap, ◌∙◌}
-use borrow.Author.Rules.{rules}
 use Rattle.logpage.specs.Answers.{refusal_in}
 use Rattle.logpage.specs.Reader.{reading_of}
 use Rattle.logpage.proofs.reader.Laws.{right_identity, wrong-identity, wrong-length}

@@ -1,7 +1,6 @@
 -- `LogPage::write`: head, windows and tail of a page of 512 bytes.
 use mathlib.Core.Path.{sym, ◌∙◌}
 use borrow.Author.Tests.{eq-eqb, ne_eqb}
-use borrow.Author.Rules.{rules}
 use Rattle.logpage.proofs.page.Laws.{page-run}
 use Rattle.logpage.proofs.page.LogPage.write.Goals as goal
 

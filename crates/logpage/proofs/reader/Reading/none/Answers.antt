@@ -1,6 +1,5 @@
 -- `Reading::none`: each part is a new monitor's.
 use Rattle.logpage.specs.Reader.{no_reading}
-use borrow.Author.Rules.{rules}
 use Rattle.logpage.proofs.reader.Reading.none.Goals as goal
 
 pub returns : goal.returns

@@ -1,7 +1,6 @@
 -- `below_a`: of the active window, and of the static one.
 use mathlib.Core.Path.{sym, ap}
 use Rattle.monitor.specs.Report.{counts_below_a}
-use borrow.Author.Rules.{rules}
 use Rattle.monitor.proofs.record.Monitor.below_a.Goals as goal
 
 pub returns-in-Active : goal.returns-in-Active

@@ -5,7 +5,6 @@ use Rattle.rules.specs.Commands.{is_below_a}
 use Rattle.rules.proofs.Counters.{is-counter, no-counter}
 use Rattle.rules.proofs.commands.Laws.{fast-uncounted}
 use Rattle.monitor.proofs.record.Laws.{uncounted, not-counted, Decided, decide}
-use borrow.Author.Rules.{rules}
 use Rattle.monitor.proofs.record.Monitor.completion.Goals.{After-loads}
 use Rattle.monitor.proofs.record.Monitor.completion.Goals as goal
 

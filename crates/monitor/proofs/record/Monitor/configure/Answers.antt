@@ -1,13 +1,11 @@
 -- `Monitor::configure`: turned away by rows 1 to 6; enable 1; enable 0.
-use mathlib.Core.Path.{◌≡◌, sym, ap, ◌∙◌}
+use mathlib.Core.Path.{◌≡◌}
 use mathlib.Core.Option.{none}
 use native.Mathlib.Omega.{arith}
-use Rattle.rules.specs.Answers.{says_answer}
 use Rattle.rules.specs.Refusals.{settings_refusal}
 use Rattle.rules.proofs.refusals.Laws.{accepted as accepted-settings}
 use Rattle.rules.proofs.settings.Laws.{not-refused}
 use Rattle.monitor.proofs.record.Laws.{settings-refused, settings-accepted}
-use borrow.Author.Rules.{rules}
 use Rattle.monitor.proofs.record.Monitor.configure.Goals.{In-Done}
 use Rattle.monitor.proofs.record.Monitor.configure.Goals as goal
 

@@ -3,7 +3,6 @@ use borrow.Author.Tests.{lt-ltb}
 use Rattle.rules.specs.Refusals.{elapsed_refusal}
 use Rattle.monitor.proofs.record.Laws.{elapsed-accepted}
 use Rattle.monitor.specs.Record.{after_elapsed, elapsed_answer}
-use borrow.Author.Rules.{rules}
 use Rattle.monitor.proofs.record.Monitor.elapsed.Goals as goal
 
 pub returns-then-t : goal.returns-then-t

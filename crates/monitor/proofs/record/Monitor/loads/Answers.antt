@@ -1,7 +1,6 @@
 -- `Monitor::loads`: unset; mode largest; mode first.
 use borrow.Author.Tests.{eq-eqb, ne_eqb}
 use Rattle.rules.specs.Counting.{loads}
-use borrow.Author.Rules.{rules}
 use Rattle.monitor.proofs.record.Monitor.loads.Goals as goal
 
 pub returns-then-stamps-n : goal.returns-then-stamps-n

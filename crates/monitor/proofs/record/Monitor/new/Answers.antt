@@ -1,6 +1,5 @@
 -- `Monitor::new`: the parts of the definition.
 use Rattle.monitor.specs.Record.{new_monitor}
-use borrow.Author.Rules.{rules}
 use Rattle.monitor.proofs.record.Monitor.new.Goals as goal
 
 pub returns : goal.returns

@@ -1,7 +1,6 @@
 -- `page`: the page is written, or the buffer is not 512 bytes.
 use mathlib.Core.Path.{sym, ◌∙◌}
 use Rattle.monitor.proofs.report.Laws.{page-written, page-refused}
-use borrow.Author.Rules.{rules}
 use Rattle.monitor.proofs.record.Monitor.page.Goals as goal
 
 pub returns-then-write : goal.returns-then-write

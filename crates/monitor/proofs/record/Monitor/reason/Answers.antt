@@ -1,7 +1,6 @@
 -- `Monitor::reason`: disabled; of no kind; below threshold A; and what the counter's stamp says.
 use mathlib.Core.Path.{sym, ◌∙◌}
 use Prim.Native.Nat.{◌<◌}
-use borrow.Author.Rules.{rules}
 use borrow.Author.Tests.{not-true, not-false}
 use Rattle.rules.proofs.Counters.{is-counter}
 use Rattle.monitor.proofs.reasons.Laws.{reason-disabled, reason-no-kind, reason-below-a, reason-of-counter}

@@ -1,7 +1,6 @@
 -- `settings_back`: the settings are copied, or the buffer is not 4,096 bytes.
 use mathlib.Core.Path.{refl}
 use Rattle.monitor.proofs.report.Laws.{settings-written, settings-refused}
-use borrow.Author.Rules.{rules}
 use Rattle.monitor.proofs.record.Monitor.settings_back.Goals as goal
 
 pub returns-then-s-eq-LENGTH : goal.returns-then-s-eq-LENGTH

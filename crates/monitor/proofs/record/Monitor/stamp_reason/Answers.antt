@@ -1,8 +1,7 @@
 -- `Monitor::stamp_reason`: unset; mode first; not larger; within the minimum window; loaded.
 use mathlib.Core.Bool.{true, false}
 use mathlib.Core.Path.{refl, sym, ◌∙◌}
-use borrow.Author.Rules.{rules}
-use borrow.Author.Tests.{eq-eqb, ne_eqb, not-true, not-false}
+use borrow.Author.Tests.{eq-eqb, ne_eqb}
 use Rattle.monitor.proofs.reasons.Laws.{stamp-reason}
 use Rattle.monitor.proofs.record.Monitor.stamp_reason.Goals as goal
 

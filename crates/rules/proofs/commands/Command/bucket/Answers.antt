@@ -1,6 +1,5 @@
 -- `Command::bucket`: the search goes by which thresholds are reached.
 use Rattle.rules.specs.Commands.{bucket_of, highest}
-use borrow.Author.Rules.{rules}
 use Rattle.rules.proofs.commands.Command.bucket.Goals as goal
 
 pub returns : goal.returns

@@ -3,7 +3,6 @@ use mathlib.Core.Path.{sym, ap, ◌∙◌}
 use native.Mathlib.Omega.{arith}
 use Rattle.rules.specs.Commands.{counter_of, kind_number}
 use Rattle.rules.proofs.commands.Laws.{few-buckets, by-numbers, by-no-kind}
-use borrow.Author.Rules.{rules}
 use Rattle.rules.proofs.commands.Command.counter.Goals as goal
 
 pub overflow_mul-result : goal.overflow_mul-result

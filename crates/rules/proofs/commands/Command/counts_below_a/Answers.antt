@@ -3,7 +3,6 @@ use mathlib.Core.Path.{sym, ap, ◌∙◌}
 use Rattle.rules.specs.Commands.{kind_number}
 use Rattle.rules.proofs.Counters.{counted-kind}
 use Rattle.rules.proofs.commands.Laws.{below-a-kind}
-use borrow.Author.Rules.{rules}
 use Rattle.rules.proofs.commands.Command.counts_below_a.Goals as goal
 
 pub returns-then-is_below_a : goal.returns-then-is_below_a

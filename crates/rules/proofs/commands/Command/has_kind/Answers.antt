@@ -2,7 +2,6 @@
 use mathlib.Core.Path.{ap, ◌∙◌}
 use Rattle.rules.specs.Commands.{kind_number}
 use Rattle.rules.proofs.Counters.{is-kind}
-use borrow.Author.Rules.{rules}
 use Rattle.rules.proofs.commands.Command.has_kind.Goals as goal
 
 pub returns : goal.returns

@@ -1,7 +1,6 @@
 -- `Command::is_below_a`: at threshold A or above, and below it.
 use mathlib.Core.Path.{sym, ◌∙◌}
 use Rattle.rules.specs.Commands.{is_below_a}
-use borrow.Author.Rules.{rules}
 use Rattle.rules.proofs.commands.Command.is_below_a.Goals as goal
 
 pub returns-then-reaches : goal.returns-then-reaches

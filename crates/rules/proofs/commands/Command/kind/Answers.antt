@@ -6,7 +6,6 @@ use Prim.Native.Nat.{ℕ}
 use lib.Dec.{eqb}
 use Rattle.rules.specs.Commands.{kind_for, except_deallocate}
 use Rattle.rules.proofs.commands.Laws.{by-attribute}
-use borrow.Author.Rules.{rules}
 use Rattle.rules.proofs.commands.Command.kind.Goals as goal
 
 -- without the attribute there is no Deallocate, and nothing else changes

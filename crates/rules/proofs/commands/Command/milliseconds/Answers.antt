@@ -1,6 +1,5 @@
 -- `Command::milliseconds`: below the top, and at it.
 use native.Mathlib.Omega.{arith}
-use borrow.Author.Rules.{rules}
 use Rattle.rules.specs.Commands.{milliseconds_of}
 use Rattle.rules.proofs.commands.Command.milliseconds.Goals as goal
 
