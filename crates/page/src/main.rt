@@ -29,6 +29,7 @@ struct Turn {
 
 // One block of input and its refused lines. The next one is read exactly where this one was read whole and its lines
 // are written.
+#[tactic(auto, unfolding(streams::specs::Blocks::goes_on))]
 fn advance<R: Read, W: Write, E: Write>(
     p: Progress,
     input: &mut R,

@@ -25,6 +25,7 @@ pub struct Taken {
 
 impl Progress {
     // Nothing has been read.
+    #[tactic(auto, unfolding(crate::specs::Progress::nothing_read))]
     pub fn start() -> Self
         ensures { result ≡ nothing_read }
     {

@@ -1,6 +1,6 @@
 -- A turn that is not the last has read a whole block that says nothing: its 4,096 records come before the one asked
 -- about.
-use Rattle.std.proofs.Common.{◌≡◌, sym, ◌∙◌, length, length-take, arith}
+use Rattle.std.proofs.Common.{sym, ◌∙◌, length-take, arith}
 use Rattle.streams.proofs.Laws.{whole-and-wanted}
 use Rattle.events.specs.Explain.{after_part}
 use Rattle.events.proofs.Explaining.{ends-before, says_nothing}
