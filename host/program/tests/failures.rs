@@ -119,7 +119,7 @@ fn closed_output_of_a_named_file() {
     says_a_line(&PAGE.run(&[SAMPLE], ">&-", |_| Ok(())));
 }
 
-/// A program whose reader is gone is ended by the system, and says nothing.
+/// A program whose reader is gone says nothing.
 #[test]
 fn closed_pipe() {
     for (program, input) in programs() {
