@@ -1,6 +1,6 @@
 -- What document 01 lets a call answer, and which of it each case of the code's enums says.
 use Rattle.std.specs.Prelude.{Bool, true, false, List, ℕ}
-use Rattle.std.proofs.Math.Option.{Option, none, some}
+use Rattle.std.specs.Prelude.{Option, None, Some}
 use Rattle.logpage.specs.declared.answers.Answer.{Answer}
 use Rattle.logpage.specs.declared.answers.Answer.TheVariants.{Done, Refused}
 use Rattle.rules.specs.declared.answers.CompletionAnswer.{CompletionAnswer}
@@ -23,8 +23,8 @@ pub data CallAnswer : Type 0 where
 
 -- the refusal if there is one, else the answer of an accepted call
 abbrev pub unless_refused : Option ℕ → CallAnswer → CallAnswer
-unless_refused (some n) answer = refused n
-unless_refused none answer = answer
+unless_refused (Some n) answer = refused n
+unless_refused None answer = answer
 
 -- what each case of the code's answers says
 abbrev pub says_answer : Answer → CallAnswer

@@ -1,6 +1,6 @@
 -- 02, Ticket 1: the listing of a page's counters.
 use Rattle.std.specs.Prelude.{ℕ, zero, suc, List, [], ◌∷◌, ◌++◌, length, get_or}
-use Rattle.std.proofs.Math.Option.{Option, none, some}
+use Rattle.std.specs.Prelude.{Option, None, Some}
 use Rattle.logpage.specs.Reader.{fields_in, read_refusal}
 use Rattle.logpage.specs.declared.page.LogPage.{LogPage}
 use Rattle.text.specs.Lines.{decimal, spaced, refused_line}
@@ -30,8 +30,8 @@ as_listing t = record { bytes = padded 768 t; len = length t }
 
 -- the counters that a page's fields show, or the line of its refusal
 abbrev pub listed : Option ℕ → LogPage → List ℕ
-listed none p = listing_of p.active_window.counters p.static_window.counters
-listed (some n) p = refused_line (n ∷ [])
+listed None p = listing_of p.active_window.counters p.static_window.counters
+listed (Some n) p = refused_line (n ∷ [])
 
 unfoldable pub page_listing : List ℕ → List ℕ
 page_listing page = listed (read_refusal page) (fields_in page)

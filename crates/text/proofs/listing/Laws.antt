@@ -1,6 +1,6 @@
 -- Laws of the listing.
 use mathlib.Core.List.{List, [], ◌∷◌}
-use mathlib.Core.Option.{none, some}
+use Rattle.std.specs.Prelude.{None, Some}
 use mathlib.Core.Path.{◌≡◌, refl}
 use Prim.Native.Nat.{ℕ, ◌+◌, ◌*◌, ◌≤◌}
 use native.Mathlib.Numerals.{add-one}
@@ -46,14 +46,14 @@ as-listing t bytes room r le s =
     (rw (in-zeros 768 t bytes r (stored-within s refl le), s.exact), omega (arith, s.within))
 
 -- a page that is turned away
-pub page-refused : (page : List ℕ) (n : ℕ) → read_refusal page ≡ some n → page_listing page ≡ refused_line (n ∷ [])
+pub page-refused : (page : List ℕ) (n : ℕ) → read_refusal page ≡ Some n → page_listing page ≡ refused_line (n ∷ [])
 unfolding page_listing
 page-refused page n e = rw e
 
 -- a page that is read
 pub page-read :
     (page : List ℕ) (r : Reading) →
-    read_refusal page ≡ none →
+    read_refusal page ≡ None →
     r ≡ reading_of page →
     page_listing page ≡ listing_of r.page.active_window.counters r.page.static_window.counters
 unfolding page_listing reading_of shown

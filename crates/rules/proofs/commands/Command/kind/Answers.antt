@@ -1,6 +1,6 @@
 -- `Command::kind`: with the deallocate attribute or bit, and without.
 use mathlib.Core.Bool.{Bool, true, false, cond, ◌&&◌, ◌||◌}
-use mathlib.Core.Option.{none, some}
+use Rattle.std.specs.Prelude.{None, Some}
 use mathlib.Core.Path.{◌≡◌, refl, ap, ◌∙◌}
 use Prim.Native.Nat.{ℕ}
 use lib.Dec.{eqb}
@@ -14,8 +14,8 @@ without opcode = by (eqb opcode 2) (eqb opcode 1) (eqb opcode 9 || eqb opcode 8)
   where
     by :
         (r w d : Bool) →
-        except_deallocate (cond r (some 0) (cond w (some 1) (cond (d && true) (some 2) none))) ≡
-        cond r (some 0) (cond w (some 1) (cond (d && false) (some 2) none))
+        except_deallocate (cond r (Some 0) (cond w (Some 1) (cond (d && true) (Some 2) None))) ≡
+        cond r (Some 0) (cond w (Some 1) (cond (d && false) (Some 2) None))
     by true w d = refl
     by false true d = refl
     by false false true = refl
