@@ -26,7 +26,7 @@ use Rattle.history.specs.Effects.{powered_up, nothing, if_accepted, effect_of, P
 use Rattle.history.specs.Effects.{completion_in, latest, since}
 use Rattle.rules.specs.Refusals.{settings_refusal, elapsed_refusal, clock_refusal, page_refusal, settings_back_refusal}
 use Rattle.rules.specs.Settings.{decoded}
-use Rattle.rules.proofs.refusals.Laws.{Accepted, accepted}
+use Rattle.rules.proofs.Refusals.{Accepted, accepted}
 use Rattle.rules.proofs.commands.Laws.{counter-below}
 use Rattle.history.proofs.Facts.{Good, enabled-positive, clock-top}
 use Rattle.history.proofs.Lists.{All, Some, every, all-those, length_from}

@@ -29,7 +29,7 @@ use Rattle.rules.specs.Settings.{decoded, encoded, discard, enable}
 use Rattle.history.proofs.Bounds.{Sound, sound-past, latest-some}
 use Rattle.history.proofs.Lists.{Some}
 use Rattle.history.proofs.Play.{played-as-facts}
-use Rattle.rules.proofs.refusals.Laws.{Accepted}
+use Rattle.rules.proofs.Refusals.{Accepted}
 
 pub page-shows-facts : PageShowsFacts
 unfolding page_of record_of facts_of

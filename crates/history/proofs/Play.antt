@@ -25,7 +25,7 @@ use Rattle.monitor.specs.Record.{new_monitor, after_settings, after_elapsed, ela
 use Rattle.rules.specs.Refusals.{settings_refusal, elapsed_refusal, clock_refusal, page_refusal, settings_back_refusal}
 use Rattle.rules.specs.Settings.{decoded, discard}
 use Rattle.monitor.proofs.Laws.{configured as reset, settings-accepted}
-use Rattle.rules.proofs.refusals.Laws.{accepted, elapsed-fits, clock-fits}
+use Rattle.rules.proofs.Refusals.{accepted, elapsed-fits, clock-fits}
 use Rattle.history.proofs.Completions.{completion-step}
 use Rattle.history.proofs.Elapsed.{elapsed-step, elapsed-answer}
 use Rattle.history.proofs.Facts.{Ok, Good, described}

@@ -4,14 +4,12 @@ use Rattle.std.specs.Prelude.{Option, None, Some}
 use Rattle.logpage.specs.declared.fields.Settings.{Settings}
 use Rattle.rules.specs.declared.commands.Command.{Command}
 use Rattle.rules.specs.declared.kinds.Kind.{Kind}
-use Rattle.rules.specs.declared.kinds.Kind.TheVariants.{Read, Write, Deallocate, Other}
+use Rattle.rules.specs.Kinds.{number_of}
 
--- 01, The monitor's record: each kind's number; other commands have none
-abbrev pub says_kind : Kind → Option ℕ
-says_kind Read = Some 0
-says_kind Write = Some 1
-says_kind Deallocate = Some 2
-says_kind Other = None
+-- the kind by its number; other commands have none
+abbrev pub says_kind : Option Kind → Option ℕ
+says_kind (Some kind) = Some (number_of kind)
+says_kind None = None
 
 -- 02, Ticket 4: Dataset Management, 9, and Write Zeroes, 8, are Deallocate with the deallocate attribute or bit
 abbrev pub kind_by_attribute : ℕ → Bool → Option ℕ
@@ -24,11 +22,6 @@ kind_for opcode attribute =
 
 unfoldable pub kind_of : Command → Option ℕ
 kind_of c = kind_for c.opcode c.deallocate
-
--- 02, Ticket 4: what is left of a kind without the attribute: no Deallocate, and any other
-abbrev pub except_deallocate : Option ℕ → Option ℕ
-except_deallocate (Some k) = cond (eqb k 2) None (Some k)
-except_deallocate None = None
 
 -- 01, A completion: whether a command is of a kind that counts at all
 abbrev is_there : Option ℕ → Bool
@@ -68,11 +61,6 @@ abbrev pub counter_at : Option ℕ → Option ℕ → Option ℕ
 counter_at (Some b) (Some k) = Some (3 * b + k)
 counter_at (Some b) None = None
 counter_at None k = None
-
--- the counter as a number: twelve is that of none
-abbrev pub counter_number : Option ℕ → ℕ
-counter_number (Some n) = n
-counter_number None = 12
 
 -- 01, A completion: whether a latency is long enough to count at all
 abbrev pub reaches_a : List ℕ → Command → Bool

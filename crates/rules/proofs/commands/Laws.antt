@@ -1,5 +1,5 @@
 -- Laws of the search for a bucket, and of the counter that it leads to.
-use mathlib.Core.Path.{◌≡◌, refl, sym, ap, ◌∙◌}
+use mathlib.Core.Path.{◌≡◌, refl, sym, ◌∙◌}
 use mathlib.Core.Bool.{Bool, true, false, cond, true≢false, ◌&&◌, ◌||◌, and-false}
 use mathlib.Core.List.{List}
 use Rattle.std.specs.Prelude.{Option, None, Some}
@@ -12,7 +12,7 @@ use lib.ListN.{get_or}
 use Rattle.logpage.specs.declared.fields.Settings.{Settings}
 use Rattle.rules.specs.declared.commands.Command.{Command}
 use Rattle.rules.specs.Commands.{highest, highest_reached, highest_below, reaches, reaches_a, bucket_of, milliseconds_of, latency_above}
-use Rattle.rules.specs.Commands.{kind_for, kind_of, counter_at, counter_of, is_below_a, below_a_of, bucket_number, counter_number, kind_number}
+use Rattle.rules.specs.Commands.{kind_of, counter_at, counter_of, is_below_a, below_a_of}
 
 -- one step of the search down
 module _ (reached : List Bool) where
@@ -76,16 +76,6 @@ without-below c without =
     (either (eqb c.opcode 2) (present {x = 0} (omega arith))
     (either (eqb c.opcode 1) (present {x = 1} (omega arith)) absent))
 
--- there are five numbers of buckets, with that of none
-pub bucket-few :
-    (thresholds : List ℕ) (c : Command) (bucket : ℕ) → bucket ≡ bucket_number (bucket_of thresholds c) → bucket < 5
-unfolding bucket_of
-bucket-few thresholds c bucket is = rw is (by (bucket-below thresholds c.latency 4))
-  where
-    by : {o : Option ℕ} → Below 4 o → bucket_number o < 5
-    by absent = omega arith
-    by (present h) = omega arith
-
 at-below : {b k : Option ℕ} → Below 4 b → Below 3 k → Below 12 (counter_at b k)
 at-below absent q = absent
 at-below (present p) absent = absent
@@ -94,10 +84,10 @@ at-below (present {x = b} p) (present {x = k} q) = present {x = 3 * b + k} (omeg
 inside : {n x : ℕ} → Below n (Some x) → x < n
 inside (present h) = h
 
--- the kind by the attribute
-pub by-attribute : (c : Command) (d : Bool) → c.deallocate ≡ d → kind_for c.opcode d ≡ kind_of c
-unfolding kind_of
-by-attribute c d e = ap (kind_for c.opcode) (sym e)
+-- there are four buckets
+pub bucket-few : (thresholds : List ℕ) (c : Command) (b : ℕ) → bucket_of thresholds c ≡ Some b → b < 4
+unfolding bucket_of
+bucket-few thresholds c b e = inside (rw e at (bucket-below thresholds c.latency 4))
 
 -- there are twelve counters
 pub counter-below : (s : Settings) (c : Command) (n : ℕ) → counter_of s c ≡ Some n → n < 12
@@ -153,48 +143,14 @@ pub at-no-kind : (o : Option ℕ) → counter_at o None ≡ None
 at-no-kind None = refl
 at-no-kind (Some b) = refl
 
--- the counter by its two numbers, of a latency that reaches threshold A
-module _
-    (s : Settings)
-    (c : Command)
-    (bucket kind : ℕ)
-    (on : s.enabled ≡ true)
-    (a : reaches_a s.thresholds c ≡ true)
-    (bucket-is : bucket ≡ bucket_number (bucket_of s.thresholds c))
-    (kind-is : kind ≡ kind_number (kind_of c))
-  where
-    pub few-buckets : bucket < 4
-    unfolding bucket_of
-    few-buckets = rw bucket-is (by (has-bucket s.thresholds c.latency a 3))
-      where
-        by : {o : Option ℕ} → Found 4 o → bucket_number o < 4
-        by (found_at b few) = few
-
-    pub by-numbers : kind < 3 → 3 * bucket + kind ≡ counter_number (counter_of s c)
-    unfolding counter_of
-    by-numbers few = rw (on, a) (by (bucket_of s.thresholds c) bucket-is (kind_of c) kind-is)
-      where
-        by :
-            (b : Option ℕ) →
-            bucket ≡ bucket_number b →
-            (k : Option ℕ) →
-            kind ≡ kind_number k →
-            3 * bucket + kind ≡ counter_number (counter_at b k)
-        by (Some x) eb (Some y) ek = rw (eb, ek)
-        by None eb k ek = absurd (omega (arith, few-buckets))
-        by (Some x) eb None ek = absurd (omega arith)
-
-    pub by-no-kind : 3 ≤ kind → 12 ≡ counter_number (counter_of s c)
-    unfolding counter_of
-    by-no-kind many = rw (on, a) (by (kind_of c) refl kind-is)
-      where
-        by :
-            (k : Option ℕ) →
-            kind_of c ≡ k →
-            kind ≡ kind_number k →
-            12 ≡ counter_number (counter_at (bucket_of s.thresholds c) k)
-        by None is e = rw (at-no-kind (bucket_of s.thresholds c))
-        by (Some k) is e = absurd (omega (arith, kind-few c k is))
+-- the counter of a latency that reaches threshold A, by its bucket and kind
+pub slow-counter :
+    (s : Settings) (c : Command) →
+    s.enabled ≡ true →
+    reaches_a s.thresholds c ≡ true →
+    counter_of s c ≡ counter_at (bucket_of s.thresholds c) (kind_of c)
+unfolding counter_of
+slow-counter s c on a = rw (on, a)
 
 -- what becomes of a completion: it has a counter, it is below threshold A, or it is of no kind or comes while disabled
 pub data Becomes (s : Settings) (c : Command) : Type 0 where
@@ -260,6 +216,14 @@ pub below-a-kind :
     below_a_of s c ≡ cond below (kind_of c) None
 unfolding below_a_of
 below-a-kind s c below e = rw e
+
+pub below-a-kindless : (s : Settings) (c : Command) → kind_of c ≡ None → below_a_of s c ≡ None
+unfolding below_a_of
+below-a-kindless s c e = by (is_below_a s c)
+  where
+    by : (below : Bool) → cond below (kind_of c) None ≡ None
+    by true = e
+    by false = refl
 
 -- below the latency of more ms than these there are at most as many
 pub below-latency-above : (c : Command) (ms : ℕ) → c.latency < latency_above ms → milliseconds_of c ≤ ms

@@ -3,7 +3,7 @@ use mathlib.Core.Path.{◌≡◌}
 use Rattle.std.specs.Prelude.{None}
 use native.Mathlib.Omega.{arith}
 use Rattle.rules.specs.Refusals.{settings_refusal}
-use Rattle.rules.proofs.refusals.Laws.{accepted as accepted-settings}
+use Rattle.rules.proofs.Refusals.{accepted as accepted-settings}
 use Rattle.rules.proofs.settings.Laws.{not-refused}
 use Rattle.monitor.proofs.record.Laws.{settings-refused, settings-accepted}
 use Rattle.monitor.proofs.record.Monitor.configure.Goals.{In-Done}
