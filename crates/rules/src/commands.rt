@@ -1,5 +1,5 @@
 // A completed command: the counter that it counts for, whether it is below threshold A, and its latency in ms.
-ghost use Rattle.std.specs.Prelude.{◌≡◌, ◌∷◌, []};
+ghost use Rattle.std.specs.Prelude.{◌≡◌, ◌<◌, ◌∷◌, [], IfSome};
 ghost use Rattle.rules.specs.Commands.{kind_of, says_kind, has_kind, reaches, bucket_of, counter_of};
 ghost use Rattle.rules.specs.Commands.{is_below_a, below_a_of, milliseconds_of, highest_reached, latency_above};
 ghost use Rattle.rules.specs.Counting.{counted_below_a};
@@ -96,7 +96,8 @@ impl Command {
 
     // The counter that the completion counts for. Most completions are below threshold A, so that is asked first.
     pub fn counter(self, s: Settings) -> Option<u16>
-        ensures { result ≡ counter_of s self }
+        ensures counter { result ≡ counter_of s self }
+        ensures below { IfSome result (λ n. n < 12) }
     {
         let thresholds = s.thresholds;
         if !s.enabled {

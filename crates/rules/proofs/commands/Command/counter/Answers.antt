@@ -15,25 +15,25 @@ slow c =
     slow-counter c.args.s c.args.self (not-false c.args.s.enabled c.if-not-s.false)
     (sym c.reaches.ensures ∙ c.if-not-reaches.false)
 
-pub returns-then-not-s : goal.returns-then-not-s
+pub returns-then-not-s-clause-counter : goal.returns-then-not-s-clause-counter
 unfolding counter_of
-returns-then-not-s c = rw (not-true c.args.s.enabled c.if-not-s.true)
+returns-then-not-s-clause-counter c = rw (not-true c.args.s.enabled c.if-not-s.true)
 
-pub returns-then-not-reaches : goal.returns-then-not-reaches
+pub returns-then-not-reaches-clause-counter : goal.returns-then-not-reaches-clause-counter
 unfolding counter_of
-returns-then-not-reaches c =
+returns-then-not-reaches-clause-counter c =
     rw (not-false c.args.s.enabled c.if-not-s.false, sym c.reaches.ensures ∙ c.if-not-reaches.true)
 
-pub returns-in_err-bucket : goal.returns-in_err-bucket
-returns-in_err-bucket c =
+pub returns-in_err-bucket-clause-counter : goal.returns-in_err-bucket-clause-counter
+returns-in_err-bucket-clause-counter c =
     c.from_residual.ensures ∙
-    rw (slow (goal.at.returns-in_err-bucket c).After-bucket, ← c.in_err-bucket.ensures)
+    rw (slow (goal.at.returns-in_err-bucket-clause-counter c).After-bucket, ← c.in_err-bucket.ensures)
 
-pub returns-in_err-kind : goal.returns-in_err-kind
-returns-in_err-kind c =
+pub returns-in_err-kind-clause-counter : goal.returns-in_err-kind-clause-counter
+returns-in_err-kind-clause-counter c =
     c.from_residual-in_err-kind.ensures ∙
     rw (
-      slow (goal.at.returns-in_err-kind c).After-bucket,
+      slow (goal.at.returns-in_err-kind-clause-counter c).After-bucket,
       ← c.in_err-kind.ensures,
       at-no-kind (bucket_of c.args.s.thresholds c.args.self),
     )
@@ -49,11 +49,17 @@ overflow_add-result c =
     let kinds = kind-few _ _ (sym (c.in_ok-kind.ensures)) in
     record { fits = omega (arith, c.from.ensures) }
 
-pub returns : goal.returns
-returns c =
+pub returns-clause-counter : goal.returns-clause-counter
+returns-clause-counter c =
     rw (
-      slow (goal.at.returns c).After-bucket,
+      slow (goal.at.returns-clause-counter c).After-bucket,
       ← c.in_ok-bucket.ensures,
       ← c.in_ok-kind.ensures,
       c.from.ensures,
     )
+
+pub returns-clause-below : goal.returns-clause-below
+returns-clause-below c =
+    let few = bucket-few _ _ _ (sym c.in_ok-bucket.ensures) in
+    let kinds = kind-few _ _ (sym c.in_ok-kind.ensures) in
+    omega (arith, c.from.ensures)
