@@ -44,9 +44,12 @@ says_below_a completion.BelowA = true
 says_below_a (completion.Counted n d) = false
 says_below_a (completion.Loaded n d) = false
 
+abbrev pub says_elapsed_answer : ElapsedAnswer → CallAnswer
+says_elapsed_answer elapsed.Active = ended false
+says_elapsed_answer elapsed.Ended = ended true
+
 abbrev pub says_elapsed : Result ElapsedAnswer Refusal → CallAnswer
-says_elapsed (Ok elapsed.Active) = ended false
-says_elapsed (Ok elapsed.Ended) = ended true
+says_elapsed (Ok reply) = says_elapsed_answer reply
 says_elapsed (Err refusal) = refused (number_of refusal)
 
 -- 02, Ticket 5: whether an answer says that the stamp was loaded
