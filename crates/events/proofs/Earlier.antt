@@ -1,6 +1,6 @@
 -- The completions of earlier releases, and their files.
 use Rattle.std.proofs.Common.{◌≡◌, ℕ, zero, suc, ◌≤◌, Bool, true, false, cond, not, ◌||◌, eqb, leb, List, length, refl, arith, drop-cons, eqb-true}
-use mathlib.Core.Option.{Option, none, some}
+use Rattle.std.specs.Prelude.{Option, None, Some}
 use Rattle.endian.specs.Bytes.{any_set}
 use Rattle.monitor.specs.Calls.{Call, settings, completion, elapsed, clock, power_up, History, and_then, attribute_in}
 use Rattle.monitor.specs.Calls.{WithoutAttribute}
@@ -29,14 +29,14 @@ earlier-completions r sixteen kind none-set =
 
 -- a record's call, if there is one, has no attribute
 data Without : Option Call → Type 0 where
-  no_call : Without none
-  without : {call : Call} → attribute_in call ≡ false → Without (some call)
+  no_call : Without None
+  without : {call : Call} → attribute_in call ≡ false → Without (Some call)
 
 either : (t : Bool) {x y : Option Call} → (t ≡ true → Without x) → Without y → Without (cond t x y)
 either true p q = p refl
 either false p q = q
 
-if-clear : (bytes : List ℕ) (call : Call) → attribute_in call ≡ false → Without (cond (any_set bytes) none (some call))
+if-clear : (bytes : List ℕ) (call : Call) → attribute_in call ≡ false → Without (cond (any_set bytes) None (Some call))
 if-clear bytes call p = either (any_set bytes) (λ _. no_call) (without p)
 
 without-call : (r : List ℕ) → (record_kind r ≡ 2 → attribute r ≡ 0) → Without (call_of r)

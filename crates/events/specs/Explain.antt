@@ -1,7 +1,7 @@
 -- 02, Ticket 5: what is said of a record of an event file, by its number from 0: the reason why it does not load a
 -- latency stamp, or that it is turned away.
 use Rattle.std.specs.Prelude.{ℕ, ◌-◌, ◌*◌, List, [], ◌∷◌, length, take, drop, nat_lt}
-use Rattle.std.proofs.Math.Option.{Option, none, some}
+use Rattle.std.specs.Prelude.{Option, None, Some}
 use Rattle.endian.specs.Loads.{number}
 use Rattle.rules.specs.declared.commands.Command.{Command}
 use Rattle.monitor.specs.declared.record.Monitor.{Monitor}
@@ -27,7 +27,7 @@ not_a_completion = refused 16
 
 -- the completion that a record stands for; a record that 11 turns away stands for none
 unfoldable pub completion_at : List ℕ → Option Command
-completion_at r = found none (λ (c : Call). command_in c) (call_of r)
+completion_at r = found None (λ (c : Call). command_in c) (call_of r)
 
 -- what is said of a record, by the monitor before it
 unfoldable pub record_said : Monitor → List ℕ → Said
@@ -84,6 +84,6 @@ parts_said q (s ∷ parts) = found (parts_said (after_part q s) parts) (λ said.
 
 -- what the code's cases say
 abbrev pub says_explained : Explained → Option Said
-says_explained (explained.Reason n) = some (reason n)
-says_explained (explained.Refused n) = some (refused n)
-says_explained explained.Unread = none
+says_explained (explained.Reason n) = Some (reason n)
+says_explained (explained.Refused n) = Some (refused n)
+says_explained explained.Unread = None

@@ -1,7 +1,7 @@
 // Why a completion of an event file does not load a latency stamp (document 02, Ticket 5). The file is read in parts,
 // up to the record that is asked about.
 ghost use Rattle.std.specs.Prelude.{◌≡◌, ◌≤◌, true, false, length};
-ghost use Rattle.std.proofs.Math.Option.{some};
+ghost use Rattle.std.specs.Prelude.{Some};
 ghost use Rattle.monitor.specs.Calls.{found};
 ghost use Rattle.text.specs.Lines.{as_line};
 ghost use Rattle.events.specs.Explain.{record_said, at_end, number_said, said_line, question_of, after_part, part_said};
@@ -47,7 +47,7 @@ fn number_said(n: usize) -> Explained
 // What is said of a record, by the monitor before it.
 fn record_said(m: Monitor, r: &[u8]) -> Explained
     requires { length r.now ≡ 16 }
-    ensures { says_explained result ≡ some (record_said m r.now) }
+    ensures { says_explained result ≡ Some (record_said m r.now) }
 {
     if records::is_completion(r) {
         let reason = m.reason(records::command(r));

@@ -1,6 +1,6 @@
 // The whole records of a slice, one after the other.
 ghost use Rattle.std.specs.Prelude.{◌≡◌};
-ghost use Rattle.std.proofs.Math.Option.{some};
+ghost use Rattle.std.specs.Prelude.{Some};
 ghost use Rattle.rules.specs.Answers.{says_answer, unless_refused, done};
 ghost use Rattle.monitor.specs.Calls.{play_from};
 ghost use Rattle.events.specs.Files.{calls_before, history_of, first_refused};
@@ -20,7 +20,7 @@ pub struct Stop {
 // Stopped at a refused record.
 fn refused_at(monitor: Monitor, index: usize, number: u8) -> Stop
     ensures monitor { result.monitor ≡ monitor }
-    ensures halt { says_halt result.halt ≡ refusal_at index (some number) }
+    ensures halt { says_halt result.halt ≡ refusal_at index (Some number) }
 {
     let halt = Halt::Refused { index, number };
     Stop { monitor, halt }

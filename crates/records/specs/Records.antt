@@ -1,6 +1,6 @@
 -- 01, The page program: the call that each record stands for, its refusal, and the history of a file.
 use Rattle.std.specs.Prelude.{Bool, cond, not, ◌&&◌, List, [], ◌++◌, ℕ, ◌-◌, eqb, leb, length, get_or, take, drop, replicate}
-use Rattle.std.proofs.Math.Option.{Option, none, some}
+use Rattle.std.specs.Prelude.{Option, None, Some}
 use Rattle.endian.specs.Bytes.{any_set}
 use Rattle.endian.specs.Loads.{number}
 use Rattle.rules.specs.declared.commands.Command.{Command}
@@ -27,7 +27,7 @@ unnamed from to rest r = part from to r ++ drop rest r
 
 -- the call, unless one of these bytes is set
 abbrev if_clear : List ℕ → Call → Option Call
-if_clear bytes c = cond (any_set bytes) none (some c)
+if_clear bytes c = cond (any_set bytes) None (Some c)
 
 -- kind 1 brings the thirteen settings bytes that are not reserved
 unfoldable pub settings_bytes : List ℕ → List ℕ
@@ -42,7 +42,7 @@ command_of r = record { opcode = get_or r 1 0; deallocate = eqb (attribute r) 1;
 
 -- with more in that byte a record stands for no call, whatever the opcode
 unfoldable pub completion_of : List ℕ → Option Call
-completion_of r = cond (leb (attribute r) 1) (if_clear (unnamed 3 4 8 r) (completion (command_of r))) none
+completion_of r = cond (leb (attribute r) 1) (if_clear (unnamed 3 4 8 r) (completion (command_of r))) None
 
 -- kind 3 brings four bytes of time, kind 4 eight of the clock
 unfoldable pub elapsed_of : List ℕ → ℕ
@@ -58,11 +58,11 @@ call_of_kind kind r =
     (cond (eqb kind 2) (completion_of r)
     (cond (eqb kind 3) (if_clear (unnamed 1 4 8 r) (elapsed (elapsed_of r)))
     (cond (eqb kind 4) (if_clear (unnamed 1 4 12 r) (clock (clock_of r)))
-    (cond (eqb kind 5) (if_clear (unnamed 1 8 8 r) power_up) none))))
+    (cond (eqb kind 5) (if_clear (unnamed 1 8 8 r) power_up) None))))
 
 -- the call that a record stands for, if any
 unfoldable pub call_of : List ℕ → Option Call
-call_of r = cond (eqb (length r) 16) (call_of_kind (record_kind r) r) none
+call_of r = cond (eqb (length r) 16) (call_of_kind (record_kind r) r) None
 
 -- whether a record is of a kind, with those bytes clear
 abbrev pub is_kind : (kind from to rest : ℕ) → List ℕ → Bool
@@ -76,7 +76,7 @@ is_elapsed = is_kind 3 1 4 8
 
 -- 01, Where a call is turned away: what stands for no call is refused by 11, and else the call's own rows decide
 unfoldable pub record_refusal : List ℕ → Option ℕ
-record_refusal r = found (some 11) refusal_of (call_of r)
+record_refusal r = found (Some 11) refusal_of (call_of r)
 
 -- what a record answers on a monitor: its call's own answer, or 11
 unfoldable pub record_answer : Monitor → List ℕ → CallAnswer
@@ -100,4 +100,4 @@ timed_by m r = found (standing m) (time_by m) (call_of r)
 
 -- the call of a record that nothing turns away
 abbrev pub accepted_call : List ℕ → Option Call
-accepted_call r = found (call_of r) (λ refusal. none) (record_refusal r)
+accepted_call r = found (call_of r) (λ refusal. None) (record_refusal r)

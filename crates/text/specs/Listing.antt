@@ -1,6 +1,5 @@
 -- 02, Ticket 1: the listing of a page's counters.
-use Rattle.std.specs.Prelude.{ℕ, zero, suc, List, [], ◌∷◌, ◌++◌, get_or}
-use Rattle.std.proofs.Math.Option.{Option, none, some}
+use Rattle.std.specs.Prelude.{ℕ, zero, suc, List, [], ◌∷◌, ◌++◌, Option, None, Some, get_or}
 use Rattle.logpage.specs.Reader.{fields_in, read_refusal}
 use Rattle.logpage.specs.declared.page.LogPage.{LogPage}
 use Rattle.text.specs.Lines.{decimal, spaced, refused_line}
@@ -20,8 +19,8 @@ listing_of active static = counts_lines active static 12
 
 -- the counters that a page's fields show, or the line of its refusal
 abbrev pub listed : Option ℕ → LogPage → List ℕ
-listed none p = listing_of p.active_window.counters p.static_window.counters
-listed (some n) p = refused_line (n ∷ [])
+listed None p = listing_of p.active_window.counters p.static_window.counters
+listed (Some n) p = refused_line (n ∷ [])
 
 unfoldable pub page_listing : List ℕ → List ℕ
 page_listing page = listed (read_refusal page) (fields_in page)

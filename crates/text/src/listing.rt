@@ -1,12 +1,11 @@
 // The listing: the counters of a page that was read, a line each (document 02, Ticket 1).
-ghost use Rattle.std.specs.Prelude.{◌≡◌, [], ◌∷◌, ◌++◌, ◌+◌, ◌≤◌};
+ghost use Rattle.std.specs.Prelude.{◌≡◌, ◌++◌, ◌+◌, ◌≤◌};
 ghost use Rattle.arrayvec.specs.ArrayString.{array_string_len};
-ghost use Rattle.text.specs.Lines.{refused_line};
 ghost use Rattle.text.specs.Listing.{counts_line, listing_of, page_listing};
 
 use crate::lines;
 use arrayvec::ArrayString;
-use logpage::{Answer, LogPage};
+use logpage::LogPage;
 
 // Twelve lines of at most 64 bytes: three numbers of at most 20 digits, two spaces, newline.
 pub type Listing = ArrayString<768>;
@@ -29,6 +28,7 @@ fn push_counts<const N: usize>(
 }
 
 // The listing of a page's counts, by counter number.
+#[tactic(auto, using(crate::proofs::listing::Laws::counters_steps), unfolding(crate::specs::Listing::listing_of, crate::specs::Listing::counts_lines))]
 fn counts_listing(active_counts: &[u32; 12], static_counts: &[u32; 12]) -> Listing
     ensures { result.bytes ≡ listing_of active_counts.now static_counts.now }
 {
@@ -41,15 +41,15 @@ fn counts_listing(active_counts: &[u32; 12], static_counts: &[u32; 12]) -> Listi
 }
 
 // The listing of a page: its counters, or why it is turned away.
+#[tactic(auto, unfolding(crate::specs::Listing::page_listing, logpage::specs::Reader::reading_of, logpage::specs::Reader::shown))]
 pub fn page_listing(page: &[u8]) -> Listing
     ensures { result.bytes ≡ page_listing page.now }
 {
-    let read = LogPage::read(page);
-    match read.answer {
-        Answer::Refused(number) => lines::refused(&[u64::from(number)]),
-        Answer::Done => {
-            let shown = read.reading.page;
+    match LogPage::read(page) {
+        Ok(reading) => {
+            let shown = reading.page;
             counts_listing(&shown.active_window.counters, &shown.static_window.counters)
         }
+        Err(refusal) => lines::refused(&[u64::from(u8::from(refusal))]),
     }
 }

@@ -1,5 +1,5 @@
 // The text of the page: page bytes 0 to 479, 16 a line (document 01, the page program).
-ghost use Rattle.std.specs.Prelude.{◌≡◌, [], ◌∷◌, ◌++◌, ◌+◌, ◌*◌, ◌<◌, ◌≤◌, length};
+ghost use Rattle.std.specs.Prelude.{◌≡◌, [], ◌∷◌, ◌++◌, ◌+◌, ◌<◌, ◌≤◌};
 ghost use Rattle.arrayvec.specs.ArrayString.{array_string_len};
 ghost use Rattle.text.specs.Pages.{hex_digit, hex_offset, hex_bytes, line, text_of};
 
@@ -73,6 +73,7 @@ fn push_line<const N: usize>(text: &mut ArrayString<N>, offset: usize, row: &[u8
 }
 
 // The text of the page. A row of zeros has no line.
+#[tactic(auto, using(crate::proofs::pages::Laws::rows_steps), unfolding(crate::specs::Pages::lines, crate::specs::Pages::text_of))]
 pub fn page_text(page: &[u8; 512]) -> Text
     ensures { result.bytes ≡ text_of page.now }
 {

@@ -1,6 +1,6 @@
 -- Laws of the lines of a block.
 use Rattle.std.proofs.Common.{◌≡◌, ℕ, zero, suc, ◌+◌, ◌-◌, ◌*◌, ◌/◌, ◌%◌, ◌^◌, ◌≤◌, List, [], ◌∷◌, ◌++◌, length, take, drop, refl, ap, ◌∙◌, arith, length-append, length-drop, length-take}
-use mathlib.Core.Option.{Option, none, some}
+use Rattle.std.specs.Prelude.{Option, None, Some}
 use native.Mathlib.Nat.{sub-zero}
 use lib.Seq.{sets, take-append_seam}
 use borrow.Rule.Slice.PartMut.{put_mid}
@@ -51,7 +51,7 @@ module _ (first : ℕ) (s : List ℕ) (i : ℕ) where
   -- no line before the first refused record
   next-line :
       (n k : ℕ) (p : Refusal) →
-      some p ≡ first_refused_from rest k n →
+      Some p ≡ first_refused_from rest k n →
       lines_from first s (i + k) n ≡ line_of first i p ++ lines_from first s (suc (i + p.index)) (k + n - suc p.index)
   unfolding first_refused_from lines_from record_line
   next-line zero k p e = let z : ◌≡◌ {A = ℕ} 0 1 = cc in absurd (omega arith)
@@ -60,26 +60,26 @@ module _ (first : ℕ) (s : List ℕ) (i : ℕ) where
       by :
           (o : Option ℕ) →
           record_refusal (record_at rest k) ≡ o →
-          some p ≡ or_else (refusal_at k o) (first_refused_from rest (suc k) n) →
-          (some p ≡ first_refused_from rest (suc k) n →
+          Some p ≡ or_else (refusal_at k o) (first_refused_from rest (suc k) n) →
+          (Some p ≡ first_refused_from rest (suc k) n →
           lines_from first s (i + suc k) n ≡
           line_of first i p ++ lines_from first s (suc (i + p.index)) (suc k + n - suc p.index)) →
           lines_from first s (i + k) (suc n) ≡
           line_of first i p ++ lines_from first s (suc (i + p.index)) (k + suc n - suc p.index)
-      by none eo e later =
-          let here : record_refusal (record_at s (i + k)) ≡ none = rw (rest-record s i k) at eo in
+      by None eo e later =
+          let here : record_refusal (record_at s (i + k)) ≡ None = rw (rest-record s i k) at eo in
           let on : suc (i + k) ≡ i + suc k = omega arith in
           let left : k + suc n - suc p.index ≡ suc k + n - suc p.index = omega arith in
           rw (here, on, left) (later e)
-      by (some x) eo e later =
-          let here : record_refusal (record_at s (i + k)) ≡ some x = rw (rest-record s i k) at eo in
+      by (Some x) eo e later =
+          let here : record_refusal (record_at s (i + k)) ≡ Some x = rw (rest-record s i k) at eo in
           let index_is : p.index ≡ k = ap (found 0 (λ (x : Refusal). x.index)) e in
           let number_is : p.number ≡ x = ap (found 0 (λ (x : Refusal). x.number)) e in
           let left : k + suc n - suc k ≡ n = omega arith in
           rw (here, index_is, number_is, left) refl
 
   -- no line at all
-  no_lines : (n k : ℕ) → none ≡ first_refused_from rest k n → lines_from first s (i + k) n ≡ []
+  no_lines : (n k : ℕ) → None ≡ first_refused_from rest k n → lines_from first s (i + k) n ≡ []
   unfolding first_refused_from lines_from record_line
   no_lines zero k e = refl
   no_lines (suc n) k e = by (record_refusal (record_at rest k)) refl e (no_lines n (suc k))
@@ -87,14 +87,14 @@ module _ (first : ℕ) (s : List ℕ) (i : ℕ) where
       by :
           (o : Option ℕ) →
           record_refusal (record_at rest k) ≡ o →
-          none ≡ or_else (refusal_at k o) (first_refused_from rest (suc k) n) →
-          (none ≡ first_refused_from rest (suc k) n → lines_from first s (i + suc k) n ≡ []) →
+          None ≡ or_else (refusal_at k o) (first_refused_from rest (suc k) n) →
+          (None ≡ first_refused_from rest (suc k) n → lines_from first s (i + suc k) n ≡ []) →
           lines_from first s (i + k) (suc n) ≡ []
-      by none eo e later =
-          let here : record_refusal (record_at s (i + k)) ≡ none = rw (rest-record s i k) at eo in
+      by None eo e later =
+          let here : record_refusal (record_at s (i + k)) ≡ None = rw (rest-record s i k) at eo in
           let on : suc (i + k) ≡ i + suc k = omega arith in
           rw (here, on) (later e)
-      by (some x) eo e later = cc
+      by (Some x) eo e later = cc
 
 -- the lines before record i are stored; those that are left, stored from here, give the whole
 pub record Told (first : ℕ) (s before after : List ℕ) (i took : ℕ) : Type 0 where
@@ -115,7 +115,7 @@ module _ (first : ℕ) (s before : List ℕ) where
       (after next : List ℕ) (i took more : ℕ) (p : Refusal) →
       i ≤ whole_records s →
       Told first s before after i took →
-      some p ≡ first_refused (drop (16 * i) s) →
+      Some p ≡ first_refused (drop (16 * i) s) →
       Stored (line_of first i p) took 50 after next more →
       length next ≡ length after →
       Told first s before next (i + p.index + 1) (took + more)
@@ -147,7 +147,7 @@ module _ (first : ℕ) (s before : List ℕ) where
       (after : List ℕ) (i took : ℕ) →
       i ≤ whole_records s →
       Told first s before after i took →
-      none ≡ first_refused (drop (16 * i) s) →
+      None ≡ first_refused (drop (16 * i) s) →
       50 * whole_records s ≤ length before →
       Stored (refused_lines first s) 0 (length before) before after took
   unfolding first_refused
@@ -169,13 +169,13 @@ pub has_room : (s : List ℕ) (n : ℕ) → 50 * whole_records (take (16 * (n / 
 has_room s n = omega (arith, length-take (16 * (n / 50)) s)
 
 -- the end of the input: an answer says whether there was a refusal, and which
-not-refused : (o : Option ℕ) → done ≡ unless_refused o done → o ≡ none
-not-refused none e = refl
-not-refused (some n) e = cc
+not-refused : (o : Option ℕ) → done ≡ unless_refused o done → o ≡ None
+not-refused None e = refl
+not-refused (Some n) e = cc
 
-refused-by : (o : Option ℕ) (n : ℕ) → refused n ≡ unless_refused o done → o ≡ some n
-refused-by none n e = cc
-refused-by (some k) n e = cc
+refused-by : (o : Option ℕ) (n : ℕ) → refused n ≡ unless_refused o done → o ≡ Some n
+refused-by None n e = cc
+refused-by (Some k) n e = cc
 
 pub some-line :
     (line : Line) (records n refusal : ℕ) →

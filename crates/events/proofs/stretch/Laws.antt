@@ -1,6 +1,6 @@
 -- Laws of a stretch: where it is, before record i.
 use Rattle.std.proofs.Common.{◌≡◌, ℕ, ◌+◌, ◌<◌, ◌≤◌, Bool, true, false, eqb, List, length, get_or, set, refl, ◌∙◌, arith, length-set, eqb-true}
-use mathlib.Core.Option.{Option, none, some}
+use Rattle.std.specs.Prelude.{Option, None, Some}
 use borrow.Author.Tests.{eqb-false}
 use Rattle.rules.specs.declared.commands.Command.{Command}
 use Rattle.rules.specs.Commands.{bucket_of, bucket_number}
@@ -58,15 +58,15 @@ same-time m a r = by (call_of r)
     call (below_a w) = refl
 
     by : (o : Option Call) → found (standing m) (time_by m) o ≡ found (standing (with_active m a)) (time_by (with_active m a)) o
-    by none = refl
-    by (some c) = call c
+    by None = refl
+    by (Some c) = call c
 
 -- one record more that nothing turns away
 accepted-more :
-    (s : List ℕ) (i : ℕ) → NoneRefused s i → record_refusal (record_at s i) ≡ none → NoneRefused s (i + 1)
+    (s : List ℕ) (i : ℕ) → NoneRefused s i → record_refusal (record_at s i) ≡ None → NoneRefused s (i + 1)
 accepted-more s i before here j h = by (eqb j i) refl
   where
-    by : (t : Bool) → eqb j i ≡ t → record_refusal (record_at s j) ≡ none
+    by : (t : Bool) → eqb j i ≡ t → record_refusal (record_at s j) ≡ None
     by true e = let same : j ≡ i = eqb-true j i e in rw same here
     by false e = let other = eqb-false j i e in before j (by_cases other)
       where
@@ -130,7 +130,7 @@ module _
           Bounds (with_active monitor' a') a'.bounds →
           (length a'.bounds ≡ 28) × (length a'.stamps ≡ 12) × (length a'.latencies ≡ 12) →
           AtMost (4294967295 + (i + 1)) a'.counts →
-          record_refusal r ≡ none →
+          record_refusal r ≡ None →
           with_active monitor' a' ≡ after_record (with_active monitor a) r →
           Stretched m s thresholds buckets kinds a' monitor' end (i + 1)
       next a' monitor' in-force places bound sizes room none-refused same =
@@ -150,7 +150,7 @@ module _
       -- a completion, at its place
       module _
           (c : Command)
-          (call : call_of r ≡ some (completion c))
+          (call : call_of r ≡ Some (completion c))
           (code bucket place count : ℕ)
           (code_is : (code ≡ code_of c) × (code < 512))
           (bucket-is : bucket ≡ bucket_number (bucket_of thresholds c))

@@ -2,7 +2,7 @@
 use mathlib.Core.Bool.{Bool, true, false, cond, not, true≢false, ◌&&◌, ◌||◌}
 use mathlib.Core.List.{List, [], ◌∷◌}
 use mathlib.Core.Logic.{◌↔◌}
-use mathlib.Core.Option.{Option, none, some, none-ne-some}
+use Rattle.std.specs.Prelude.{Option, None, Some, none-ne-some}
 use mathlib.Core.Path.{◌≡◌, refl, sym, ◌∙◌}
 use Prim.Native.Nat.{ℕ, zero, suc, ◌+◌, ◌-◌, ◌<◌, ◌≤◌}
 use native.Mathlib.Omega.{arith}
@@ -96,16 +96,16 @@ record Counts (s : Settings) (c : Command) (n : ℕ) : Type 0 where
   on : s.enabled ≡ true
   kind : has_kind c ≡ true
   slow-enough : reaches_a s.thresholds c ≡ true
-  counter : counter_at (bucket_of s.thresholds c) (kind_of c) ≡ some n
+  counter : counter_at (bucket_of s.thresholds c) (kind_of c) ≡ Some n
 
-has-kind : (bucket : Option ℕ) (c : Command) (n : ℕ) → counter_at bucket (kind_of c) ≡ some n → has_kind c ≡ true
+has-kind : (bucket : Option ℕ) (c : Command) (n : ℕ) → counter_at bucket (kind_of c) ≡ Some n → has_kind c ≡ true
 has-kind bucket c n e = by (kind_of c) refl
   where
     by : (kind : Option ℕ) → kind_of c ≡ kind → has_kind c ≡ true
-    by (some k) is = rw is
-    by none is = absurd (none-ne-some n (sym (at-no-kind bucket) ∙ (rw is at e)))
+    by (Some k) is = rw is
+    by None is = absurd (none-ne-some n (sym (at-no-kind bucket) ∙ (rw is at e)))
 
-counts : (s : Settings) (c : Command) (n : ℕ) → counter_of s c ≡ some n → Counts s c n
+counts : (s : Settings) (c : Command) (n : ℕ) → counter_of s c ≡ Some n → Counts s c n
 unfolding counter_of
 counts s c n e = by (reaches_a s.thresholds c) refl
   where
@@ -121,7 +121,7 @@ counts s c n e = by (reaches_a s.thresholds c) refl
 -- reasons 4 to 6, of a completion that has a counter
 pub reason-of-counter :
     (m : Monitor) (c : Command) (n ms : ℕ) →
-    counter_of m.settings c ≡ some n →
+    counter_of m.settings c ≡ Some n →
     ms ≡ milliseconds_of c →
     reason_of m c ≡ stamp_reason_of m ms n
 unfolding reason_of stamp_reason_of lowest
@@ -180,7 +180,7 @@ zero-where false true true false = ((λ e. absurd (omega arith)), (λ e. absurd 
 zero-where false true true true = ((λ e. refl), (λ e. refl))
 
 -- without a counter no stamp is loaded, and there is a reason
-no_zero : (m : Monitor) (c : Command) → counter_of m.settings c ≡ none → reason_of m c ≡ 0 → ⊥
+no_zero : (m : Monitor) (c : Command) → counter_of m.settings c ≡ None → reason_of m c ≡ 0 → ⊥
 no_zero m c none_is zero_is = by (becomes m.settings c)
   where
     by : Becomes m.settings c → ⊥
@@ -201,8 +201,8 @@ zero-where-loaded m c = by (counter_of m.settings c) refl
         (o : Option ℕ) →
         counter_of m.settings c ≡ o →
         (reason_of m c ≡ 0) ↔ (loaded_in (completion_answer m c) ≡ true)
-    by none e = ((λ z. absurd (no_zero m c e z)), (λ l. absurd (true≢false (sym (rw e at l)))))
-    by (some n) e =
+    by None e = ((λ z. absurd (no_zero m c e z)), (λ l. absurd (true≢false (sym (rw e at l)))))
+    by (Some n) e =
         rw (reason-of-counter m c n _ e refl, ← stamp-reason m (milliseconds_of c) n _ _ _ _ _ refl refl refl refl refl, e)
         (zero-where (eqb (get_or m.active_window.stamps n 0) unset) (bit m.settings.mode n)
         (larger (get_or m.active_window.latencies n 0) (milliseconds_of c))

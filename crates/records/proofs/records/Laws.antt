@@ -2,7 +2,7 @@
 use mathlib.Core.Path.{◌≡◌, refl, sym, ap, ◌∙◌}
 use mathlib.Core.Bool.{Bool, true, false, true≢false, cond, not, ◌&&◌, and-false}
 use mathlib.Core.List.{List, []}
-use mathlib.Core.Option.{Option, none, some}
+use Rattle.std.specs.Prelude.{Option, None, Some}
 use Prim.Native.Nat.{ℕ, ◌+◌, ◌-◌, ◌*◌, ◌<◌, ◌≤◌}
 use native.Mathlib.Nat.{zero-add, add_comm}
 use native.Mathlib.Numerals.{add-one}
@@ -93,8 +93,8 @@ module _ (r : List ℕ) (is : is_completion r ≡ true) where
       by true e = rw e (omega (arith, eqb-true (attribute r) 1 e))
       by false e =
           let other = eqb-false (attribute r) 1 e in
-          let none : attribute r ≡ 0 = below_one other in
-          rw e (omega (arith, none))
+          let None : attribute r ≡ 0 = below_one other in
+          rw e (omega (arith, None))
         where
           below_one : (attribute r ≡ 1 → ⊥) → attribute r ≡ 0
           below_one other = omega (arith, its-attribute)
@@ -222,29 +222,29 @@ Made m r next answer = (next ≡ after_record m r) × (answer ≡ record_answer 
 module _ (m : Monitor) (r : List ℕ) (next : Monitor) (answer : CallAnswer) where
   pub stands-for :
       (c : Call) →
-      call_of r ≡ some c →
+      call_of r ≡ Some c →
       next ≡ after c m →
       answer ≡ answer_of m c →
       Made m r next answer
   unfolding after_record record_answer play_from
   stands-for c e n a = (rw e n, rw e a)
 
-  pub stands-for-none : call_of r ≡ none → next ≡ m → answer ≡ refused 11 → Made m r next answer
+  pub stands-for-none : call_of r ≡ None → next ≡ m → answer ≡ refused 11 → Made m r next answer
   unfolding after_record record_answer play_from
   stands-for-none e n a = (rw e n, rw e a)
 
 -- the kind and the bytes that it leaves unnamed decide
-known : (u : List ℕ) (c : Call) → true ≡ not (any_set u) → cond (any_set u) none (some c) ≡ some c
+known : (u : List ℕ) (c : Call) → true ≡ not (any_set u) → cond (any_set u) None (Some c) ≡ Some c
 known u c h = by (any_set u) h
   where
-    by : (t : Bool) → true ≡ not t → cond t none (some c) ≡ some c
+    by : (t : Bool) → true ≡ not t → cond t None (Some c) ≡ Some c
     by false h = refl
     by true h = cc
 
-not_known : (u : List ℕ) (c : Call) → false ≡ not (any_set u) → cond (any_set u) none (some c) ≡ none
+not_known : (u : List ℕ) (c : Call) → false ≡ not (any_set u) → cond (any_set u) None (Some c) ≡ None
 not_known u c h = by (any_set u) h
   where
-    by : (t : Bool) → false ≡ not t → cond t none (some c) ≡ none
+    by : (t : Bool) → false ≡ not t → cond t None (Some c) ≡ None
     by true h = refl
     by false h = cc
 
@@ -252,7 +252,7 @@ both_true : (a b : Bool) → (a && b) ≡ true → (a ≡ true) × (b ≡ true)
 both_true true b h = (refl, h)
 both_true false b h = (cc, cc)
 
-pub not-sixteen : (r : List ℕ) → (length r ≡ 16 → ⊥) → call_of r ≡ none
+pub not-sixteen : (r : List ℕ) → (length r ≡ 16 → ⊥) → call_of r ≡ None
 unfolding call_of
 not-sixteen r n = rw (ne_eqb (length r) 16 n)
 
@@ -263,18 +263,18 @@ module _ (r : List ℕ) (sixteen : length r ≡ 16) where
 
   pub known-call :
       (k : ℕ) (u : List ℕ) (c : Call) →
-      call_of_kind k r ≡ cond (any_set u) none (some c) →
+      call_of_kind k r ≡ cond (any_set u) None (Some c) →
       record_kind r ≡ k →
       true ≡ not (any_set u) →
-      call_of r ≡ some c
+      call_of r ≡ Some c
   known-call k u c d e h = by-kind k e ∙ (d ∙ known u c h)
 
   pub no_call :
       (k : ℕ) (u : List ℕ) (c : Call) →
-      call_of_kind k r ≡ cond (any_set u) none (some c) →
+      call_of_kind k r ≡ cond (any_set u) None (Some c) →
       record_kind r ≡ k →
       false ≡ not (any_set u) →
-      call_of r ≡ none
+      call_of r ≡ None
   no_call k u c d e h = by-kind k e ∙ (d ∙ not_known u c h)
 
   pub clock-call :
@@ -282,7 +282,7 @@ module _ (r : List ℕ) (sixteen : length r ≡ 16) where
       value ≡ number (take 8 (take 8 (drop 4 r))) →
       record_kind r ≡ 4 →
       true ≡ not (any_set (unnamed 1 4 12 r)) →
-      call_of r ≡ some (clock value)
+      call_of r ≡ Some (clock value)
   unfolding call_of_kind clock_of
   clock-call value n e h =
       rw (n, loaded (drop 4 r) 8 (omega arith)) (known-call 4 (unnamed 1 4 12 r) (clock (clock_of r)) refl e h)
@@ -299,7 +299,7 @@ module _ (r : List ℕ) (sixteen : length r ≡ 16) where
       by true e false h = (cc, cc)
       by false e clear h = (cc, cc)
 
-  pub completion-call : (c : Command) → c ≡ command_of r → is_completion r ≡ true → call_of r ≡ some (completion c)
+  pub completion-call : (c : Command) → c ≡ command_of r → is_completion r ≡ true → call_of r ≡ Some (completion c)
   unfolding call_of_kind completion_of is_completion
   completion-call c e h =
       let few = both_true (leb (attribute r) 1) (is_kind 2 3 4 8 r) h in
@@ -310,7 +310,7 @@ module _ (r : List ℕ) (sixteen : length r ≡ 16) where
       (ms : ℕ) →
       ms ≡ number (take 8 (take 4 (drop 4 r))) →
       is_elapsed r ≡ true →
-      call_of r ≡ some (elapsed ms)
+      call_of r ≡ Some (elapsed ms)
   unfolding call_of_kind elapsed_of is_elapsed
   elapsed-call ms n h =
       let is = is-kind 3 (unnamed 1 4 8 r) h in
@@ -323,7 +323,7 @@ module _ (r : List ℕ) (sixteen : length r ≡ 16) where
       (record_kind r ≡ 1 → ⊥) →
       (record_kind r ≡ 4 → ⊥) →
       (record_kind r ≡ 5 → ⊥) →
-      call_of r ≡ none
+      call_of r ≡ None
   unfolding call_of call_of_kind completion_of is_completion is_elapsed
   unknown-kind h2 h3 n1 n4 n5 =
       rw (
@@ -338,8 +338,8 @@ module _ (r : List ℕ) (sixteen : length r ≡ 16) where
       by :
           (k u : Bool) (c : Call) (o : Option Call) →
           (k && not u) ≡ false →
-          o ≡ none →
-          cond k (cond u none (some c)) o ≡ none
+          o ≡ None →
+          cond k (cond u None (Some c)) o ≡ None
       by true true c o h e = refl
       by true false c o h e = cc
       by false u c o h e = e
@@ -347,14 +347,14 @@ module _ (r : List ℕ) (sixteen : length r ≡ 16) where
       first :
           (k few u : Bool) (c : Call) (o : Option Call) →
           (few && (k && not u)) ≡ false →
-          o ≡ none →
-          cond k (cond few (cond u none (some c)) none) o ≡ none
+          o ≡ None →
+          cond k (cond few (cond u None (Some c)) None) o ≡ None
       first k true u c o h e = by k u c o h e
       first true false u c o h e = refl
       first false false u c o h e = e
 
 -- a completion is not refused
-pub completion-accepted : (r : List ℕ) (c : Command) → call_of r ≡ some (completion c) → record_refusal r ≡ none
+pub completion-accepted : (r : List ℕ) (c : Command) → call_of r ≡ Some (completion c) → record_refusal r ≡ None
 unfolding record_refusal
 completion-accepted r c e = rw e
 
@@ -374,7 +374,7 @@ module _ (m : Monitor) where
       (k u : Bool) (c : Call) (o : Option Call) →
       (k && not u) ≡ false →
       Stands o →
-      Stands (cond k (cond u none (some c)) o)
+      Stands (cond k (cond u None (Some c)) o)
   not-of-kind true true c o h e = refl
   not-of-kind true false c o h e = cc
   not-of-kind false u c o h e = e
@@ -382,33 +382,33 @@ module _ (m : Monitor) where
   stays : (r : List ℕ) → is_elapsed r ≡ false → is_kind 4 1 4 12 r ≡ false → is_kind 5 1 8 8 r ≡ false → Stands (call_of r)
   unfolding call_of call_of_kind completion_of is_elapsed
   stays r h3 h4 h5 =
-      either (eqb (length r) 16) _ none
-      (either (eqb (record_kind r) 1) _ _ (either (any_set (unnamed 14 16 16 r)) none _ refl refl)
+      either (eqb (length r) 16) _ None
+      (either (eqb (record_kind r) 1) _ _ (either (any_set (unnamed 14 16 16 r)) None _ refl refl)
       (either (eqb (record_kind r) 2) _ _
-      (either (leb (attribute r) 1) _ none (either (any_set (unnamed 3 4 8 r)) none _ refl refl) refl)
+      (either (leb (attribute r) 1) _ None (either (any_set (unnamed 3 4 8 r)) None _ refl refl) refl)
       (not-of-kind (eqb (record_kind r) 3) (any_set (unnamed 1 4 8 r)) _ _ h3
       (not-of-kind (eqb (record_kind r) 4) (any_set (unnamed 1 4 12 r)) _ _ h4
-      (not-of-kind (eqb (record_kind r) 5) (any_set (unnamed 1 8 8 r)) _ none h5 refl)))))
+      (not-of-kind (eqb (record_kind r) 5) (any_set (unnamed 1 8 8 r)) _ None h5 refl)))))
       refl
 
   -- a record that changes the clock and the timer alone, and is not refused
   pub timed-alone :
       (r : List ℕ) →
       (timed_by m r).alone ≡ true →
-      (with_time m (timed_by m r) ≡ after_record m r) × (record_refusal r ≡ none)
+      (with_time m (timed_by m r) ≡ after_record m r) × (record_refusal r ≡ None)
   unfolding timed_by after_record record_refusal play_from
   timed-alone r e = by (call_of r) e
     where
       by :
           (o : Option Call) →
           (by_call o).alone ≡ true →
-          (with_time m (by_call o) ≡ play_from m (and_then o [])) × (found (some 11) refusal_of o ≡ none)
-      by none e = absurd (true≢false (sym e))
-      by (some c) e = time-alone m c e
+          (with_time m (by_call o) ≡ play_from m (and_then o [])) × (found (Some 11) refusal_of o ≡ None)
+      by None e = absurd (true≢false (sym e))
+      by (Some c) e = time-alone m c e
 
   -- as the code tells the kinds apart
   module _ (r : List ℕ) (p : Passed) where
-    timed-call : (c : Call) → call_of r ≡ some c → p ≡ time_by m c → p ≡ timed_by m r
+    timed-call : (c : Call) → call_of r ≡ Some c → p ≡ time_by m c → p ≡ timed_by m r
     unfolding timed_by
     timed-call c e same = rw e same
 
@@ -453,25 +453,25 @@ module _ (m : Monitor) where
 
 -- the refusal that an answer names
 abbrev pub refusal_in : CallAnswer → Option ℕ
-refusal_in (refused n) = some n
-refusal_in done = none
-refusal_in not_counted = none
-refusal_in (counted n loaded debug) = none
-refusal_in (ended e) = none
-refusal_in (by_kind counts) = none
+refusal_in (refused n) = Some n
+refusal_in done = None
+refusal_in not_counted = None
+refusal_in (counted n loaded debug) = None
+refusal_in (ended e) = None
+refusal_in (by_kind counts) = None
 
 -- a call's answer names the row that turns it away
 named : (m : Monitor) (c : Call) → refusal_in (answer_of m c) ≡ refusal_of c
 unfolding settings_answer completion_answer elapsed_answer clock_answer page_answer settings_back_answer
 named m c = by c
   where
-    unless : (o : Option ℕ) (answer : CallAnswer) → refusal_in answer ≡ none → refusal_in (unless_refused o answer) ≡ o
-    unless none answer e = e
-    unless (some n) answer e = refl
+    unless : (o : Option ℕ) (answer : CallAnswer) → refusal_in answer ≡ None → refusal_in (unless_refused o answer) ≡ o
+    unless None answer e = e
+    unless (Some n) answer e = refl
 
-    counts : (c : Command) (o : Option ℕ) → counter_of m.settings c ≡ o → refusal_in (completion_answer m c) ≡ none
-    counts c none e = rw e
-    counts c (some n) e = rw e
+    counts : (c : Command) (o : Option ℕ) → counter_of m.settings c ≡ o → refusal_in (completion_answer m c) ≡ None
+    counts c None e = rw e
+    counts c (Some n) e = rw e
 
     by : (c : Call) → refusal_in (answer_of m c) ≡ refusal_of c
     by (settings s) = unless (settings_refusal s) done refl
@@ -484,7 +484,7 @@ named m c = by c
     by (below_a w) = refl
 
 -- answers other than a refusal name none
-pub let_through : (a : RecordAnswer) → ((n : ℕ) → a ≡ answer.Refused n → ⊥) → refusal_in (says_record a) ≡ none
+pub let_through : (a : RecordAnswer) → ((n : ℕ) → a ≡ answer.Refused n → ⊥) → refusal_in (says_record a) ≡ None
 let_through (answer.Refused n) h = absurd (h n refl)
 let_through answer.Done h = refl
 let_through answer.NotCounted h = refl
@@ -499,6 +499,6 @@ pub refusal-named :
 unfolding record_answer record_refusal
 refusal-named m r answer e = rw e (by (call_of r))
   where
-    by : (o : Option Call) → found (some 11) refusal_of o ≡ refusal_in (found (refused 11) (answer_of m) o)
-    by none = refl
-    by (some c) = sym (named m c)
+    by : (o : Option Call) → found (Some 11) refusal_of o ≡ refusal_in (found (refused 11) (answer_of m) o)
+    by None = refl
+    by (Some c) = sym (named m c)

@@ -1,5 +1,5 @@
 -- Laws of the lines of the text.
-use Rattle.std.proofs.Common.{◌≡◌, ℕ, zero, suc, ◌+◌, ◌*◌, ◌/◌, ◌%◌, ◌<◌, true, false, List, [], ◌∷◌, ◌++◌, length, take, drop, get_or, append_assoc, append-nil, add-one, arith, refl, ◌∙◌}
+use Rattle.std.proofs.Common.{cond, length-take, ◌≡◌, ℕ, zero, suc, ◌+◌, ◌*◌, ◌/◌, ◌%◌, ◌<◌, true, false, List, [], ◌∷◌, ◌++◌, length, take, drop, get_or, append_assoc, append-nil, add-one, arith, refl, ◌∙◌}
 use Rattle.std.proofs.lemmas.List.{take_more, drop-drop, get_or-take}
 use Rattle.std.specs.Simd.{first_chunks}
 use Rattle.endian.specs.Bytes.{any_set}
@@ -36,28 +36,22 @@ chunk-at xs n (suc k) (suc i) h =
     chunk-at (drop n xs) n k i (omega arith) ∙ rw (drop-drop, more)
 chunk-at xs n zero i h = absurd (omega arith)
 
-pub row-at :
-    (page : List ℕ) (rows : List (List ℕ)) (n : ℕ) →
+pub row_at :
+    (page : List ℕ) (n : ℕ) →
     length page ≡ 512 →
-    rows ≡ first_chunks 16 (length page / 16) page →
     n < 30 →
-    get_or (take 30 rows) n [] ≡ take 16 (drop (16 * n) page)
-row-at page rows n size e h =
+    get_or (take 30 (first_chunks 16 (length page / 16) page)) n [] ≡ take 16 (drop (16 * n) page)
+row_at page n size h =
     let count : length page / 16 ≡ 32 = omega arith in
     let place : n * 16 ≡ 16 * n = omega arith in
-    rw (e, count, get_or-take) (rw place at (chunk-at page 16 32 n (omega arith)))
+    rw (count, get_or-take) (rw place at (chunk-at page 16 32 n (omega arith)))
 
--- one row more: it has a line, or none
-pub lines-shown :
+-- one row more
+pub lines_more :
     (page : List ℕ) (n : ℕ) →
-    any_set (take 16 (drop (16 * n) page)) ≡ true →
-    lines page (n + 1) ≡ lines page n ++ line (16 * n) (take 16 (drop (16 * n) page))
+    let row = take 16 (drop (16 * n) page) in
+    lines page (n + 1) ≡ lines page n ++ cond (any_set row) (line (16 * n) row) []
 unfolding lines line_at shown_line
-lines-shown page n h = rw (add-one n, h)
+lines_more page n = rw (add-one n)
 
-pub lines-skipped :
-    (page : List ℕ) (n : ℕ) →
-    any_set (take 16 (drop (16 * n) page)) ≡ false →
-    lines page (n + 1) ≡ lines page n
-unfolding lines line_at shown_line
-lines-skipped page n h = rw (add-one n, h) (append-nil (lines page n))
+pub ruleset rows_steps = (row_at, lines_more, length-take, append-nil)

@@ -1,5 +1,5 @@
 -- `record_said`: a completion, and any other record.
-use mathlib.Core.Option.{some}
+use Rattle.std.specs.Prelude.{Some}
 use Rattle.std.proofs.Common.{sym, ap, ◌∙◌}
 use Rattle.events.proofs.explain.Laws.{completion-said, other-said}
 use Rattle.records.proofs.Laws.{completion-call}
@@ -11,7 +11,7 @@ returns-then-is_completion c =
     completion-call _ c.requires _ c.command.ensures
     (sym c.is_completion.ensures ∙ c.if-is_completion.true)
     in
-    rw c.reason-reason.ensures (ap some (completion-said _ _ _ call))
+    rw c.reason-reason.ensures (ap Some (completion-said _ _ _ call))
 
 pub returns-else-is_completion : goal.returns-else-is_completion
-returns-else-is_completion c = ap some (other-said _ c.requires (sym c.is_completion.ensures ∙ c.if-is_completion.false) _)
+returns-else-is_completion c = ap Some (other-said _ c.requires (sym c.is_completion.ensures ∙ c.if-is_completion.false) _)

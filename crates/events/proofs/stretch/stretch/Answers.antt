@@ -1,5 +1,5 @@
 -- `stretch`: the monitor with the active window that is kept apart is what the records so far leave.
-use mathlib.Core.Option.{some}
+use Rattle.std.specs.Prelude.{Some}
 use Rattle.std.proofs.Common.{◌≡◌, ℕ, ◌+◌, ◌<◌, get_or, sym, refl, ◌∙◌, arith, rules}
 use Rattle.monitor.specs.Calls.{completion, play_from}
 use Rattle.records.specs.Records.{call_of}
@@ -68,7 +68,7 @@ overflow_cast-place-then-is_completion c = omega (arith, added c.loop-i.invarian
 its-call :
     (c : goal.After-code) →
     call_of (record_at c.args.s.now c.loop-i.i) ≡
-    some (completion c.command-c.result)
+    Some (completion c.command-c.result)
 its-call c =
     let is = sym c.is_completion.ensures ∙ c.if-is_completion.true in
     rw (← the-record _ c.loop-i.i)

@@ -1,16 +1,16 @@
 -- `Monitor::configure`: turned away by rows 1 to 6; enable 1; enable 0.
 use mathlib.Core.Path.{◌≡◌}
-use mathlib.Core.Option.{none}
+use Rattle.std.specs.Prelude.{None}
 use native.Mathlib.Omega.{arith}
 use Rattle.rules.specs.Refusals.{settings_refusal}
-use Rattle.rules.proofs.refusals.Laws.{accepted as accepted-settings}
+use Rattle.rules.proofs.Refusals.{accepted as accepted-settings}
 use Rattle.rules.proofs.settings.Laws.{not-refused}
 use Rattle.monitor.proofs.record.Laws.{settings-refused, settings-accepted}
 use Rattle.monitor.proofs.record.Monitor.configure.Goals.{In-Done}
 use Rattle.monitor.proofs.record.Monitor.configure.Goals as goal
 
 -- where `check` said done, no row turned the settings away
-accepted : (c : goal.In-Done) → settings_refusal c.args.s.now ≡ none
+accepted : (c : goal.In-Done) → settings_refusal c.args.s.now ≡ None
 accepted c = not-refused _ c.in-Done.ensures
 
 pub decode-next-requires : goal.decode-next-requires

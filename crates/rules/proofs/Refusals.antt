@@ -2,7 +2,7 @@
 use mathlib.Core.Path.{◌≡◌}
 use mathlib.Core.Bool.{false}
 use mathlib.Core.List.{List}
-use mathlib.Core.Option.{none}
+use Rattle.std.specs.Prelude.{None}
 use Prim.Native.Nat.{ℕ, ◌≤◌, ◌<◌}
 use native.Mathlib.Omega.{arith}
 use lib.Dec.{eqb}
@@ -24,7 +24,7 @@ pub record Accepted (s : List ℕ) : Type 0 where
   pub timed : 0 < (decoded s).timer_threshold
   pub masks : either_above 4095 (decoded s).mode (decoded s).trigger ≡ false
 
-pub accepted : (s : List ℕ) → settings_refusal s ≡ none → Accepted s
+pub accepted : (s : List ℕ) → settings_refusal s ≡ None → Accepted s
 unfolding settings_refusal field_refusal
 accepted s e =
     let first = no_row 1 _ _ e in
@@ -32,7 +32,7 @@ accepted s e =
     let third = no_row 3 _ _ second.1 in
     let fourth = no_row 4 _ _ third.1 in
     let fifth = no_row 5 (unordered (decoded s).thresholds) _ fourth.1 in
-    let sixth = no_row 6 (either_above 4095 (decoded s).mode (decoded s).trigger) none fifth.1 in
+    let sixth = no_row 6 (either_above 4095 (decoded s).mode (decoded s).trigger) None fifth.1 in
     record {
       whole = eqb-true (length s) 4096 (not-false (eqb (length s) 4096) first.0);
       clear = second.0;
@@ -41,10 +41,10 @@ accepted s e =
       masks = sixth.0;
     }
 
-pub elapsed-fits : (ms : ℕ) → elapsed_refusal ms ≡ none → ms ≤ 300000
+pub elapsed-fits : (ms : ℕ) → elapsed_refusal ms ≡ None → ms ≤ 300000
 unfolding elapsed_refusal
 elapsed-fits ms e = ltb-false 300000 ms (no_row 7 _ _ e).0
 
-pub clock-fits : (value : ℕ) → clock_refusal value ≡ none → value ≤ 281474976710655
+pub clock-fits : (value : ℕ) → clock_refusal value ≡ None → value ≤ 281474976710655
 unfolding clock_refusal
 clock-fits value e = ltb-false 281474976710655 value (no_row 8 _ _ e).0
