@@ -1,6 +1,7 @@
 -- What is said of a record: by a file in parts, and with the refused records skipped.
 use Rattle.std.proofs.Common.{◌≡◌, ℕ, zero, suc, ◌+◌, ◌-◌, ◌*◌, ◌%◌, ◌<◌, ◌≤◌, Bool, true, false, ltb, List, [], ◌∷◌, ◌++◌, length, take, drop, sym, refl, ap, ◌∙◌, true≢false, append-nil, arith, length-append, take-append-drop, length-take, take_all, ltb-false, ltb-true, le-ltb, lt-ltb}
-use Rattle.std.specs.Prelude.{Option, None, Some, some-ne-none}
+use Rattle.std.specs.Prelude.{Option, None, Some}
+use Rattle.monitor.proofs.Laws.{nothing-there}
 use lib.Seq.{take-append-le, take-append-add}
 use Rattle.monitor.specs.declared.record.Monitor.{Monitor}
 use Rattle.monitor.specs.Calls.{found, and_then, or_else, play_from}
@@ -79,7 +80,7 @@ unfolding said_at
 ends-before q s e = by (ltb q.before (whole_records s)) refl
   where
     by : (t : Bool) → ltb q.before (whole_records s) ≡ t → whole_records s ≤ q.before
-    by true h = absurd (some-ne-none _ (rw h at e))
+    by true h = absurd (nothing-there _ (sym (rw h at e)))
     by false h = ltb-false q.before (whole_records s) h
 
 pub says_nothing : (o : Option Said) → found true (λ said. false) o ≡ true → o ≡ None

@@ -2,8 +2,8 @@
 use Rattle.std.specs.Prelude.{◌≡◌, ℕ, zero, suc, ◌*◌, ◌/◌, ◌%◌, ◌<◌, cond, List, [], length, take, drop, ◌==◌}
 use Rattle.std.specs.Prelude.{Option, None, Some}
 use Rattle.monitor.specs.Calls.{History, found, and_then, or_else}
-use Rattle.events.specs.declared.answers.Halt.{Halt}
-use Rattle.events.specs.declared.answers.Halt.TheVariants as halt
+use Rattle.refusals.specs.Refusals.{number_of}
+use Rattle.events.specs.declared.files.RefusedRecord.{RefusedRecord}
 use Rattle.records.specs.Records.{call_of, record_refusal, accepted_call}
 
 -- record i of a file, from 0
@@ -55,10 +55,10 @@ first_refused s = first_refused_from s 0 (whole_records s)
 unfoldable pub accepted_records : List ℕ → ℕ
 accepted_records s = found (whole_records s) (λ (r : Refusal). r.index) (first_refused s)
 
--- where a run halted
-abbrev pub says_halt : Halt → Option Refusal
-says_halt (halt.Refused i n) = Some (record { index = i; number = n })
-says_halt halt.End = None
+-- the refused record that a run stopped at
+abbrev pub says_refused : Option RefusedRecord → Option Refusal
+says_refused (Some r) = Some (record { index = r.index; number = number_of r.refusal })
+says_refused None = None
 
 -- 01, Where a call is turned away: a file that is not of whole records
 unfoldable pub end_refusal : ℕ → Option ℕ

@@ -62,14 +62,19 @@ both-clear r from to rest a b sixteen ea eb =
 pub loaded : (l : List ℕ) (n : ℕ) → n ≤ 8 → number (take 8 (take n l)) ≡ number (take n l)
 loaded l n h = rw (take_all 8 (take n l) (omega (arith, length-take n l)))
 
+pub four-fit :
+    (l : List ℕ) (n : ℕ) →
+    n ≡ number (take 8 (take 4 l)) →
+    ((k : ℕ) → get_or l k 0 < 256) →
+    n < 4294967296
+four-fit l n e bytes = rw (e, loaded l 4 (omega arith)) (below l bytes 4)
+
 pub fits :
     (r : List ℕ) (n : ℕ) →
     n ≡ number (take 8 (take 4 (drop 4 r))) →
     ((k : ℕ) → get_or r k 0 < 256) →
     n < 4294967296
-fits r n e bytes =
-    rw (e, loaded (drop 4 r) 4 (omega arith))
-    (below (drop 4 r) (λ k. rw (get_or-drop 4 r k 0) (bytes (4 + k))) 4)
+fits r n e bytes = four-fit (drop 4 r) n e (λ k. rw (get_or-drop 4 r k 0) (bytes (4 + k)))
 
 -- zeros, the first of which are overwritten
 pub padded : (fields : List ℕ) → length fields ≡ 13 → sets (replicate 4096 0) 0 fields ≡ settings_with fields
