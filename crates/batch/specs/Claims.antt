@@ -1,23 +1,24 @@
 -- How the quick way is tied to the rules. No promise to a buyer rests on this crate: what an event file makes of a
 -- monitor is promised by the calls' own definitions, and these claims are what the proof of that goes by.
-use Rattle.std.specs.Prelude.{true, false, List, ◌≡◌, ℕ, ◌+◌, ◌<◌, length, get_or, set}
-use Rattle.std.specs.Prelude.{None}
+use Rattle.std.specs.Prelude.{List, ◌≡◌, ℕ, ◌+◌, ◌<◌, length, get_or, set}
+use Rattle.std.specs.Prelude.{None, Some}
 use Rattle.rules.specs.declared.commands.Command.{Command}
 use Rattle.monitor.specs.declared.record.Monitor.{Monitor}
 use Rattle.monitor.specs.Calls.{Call, after, refusal_of}
 use Rattle.monitor.specs.Record.{after_completion}
 use Rattle.batch.specs.declared.parts.Active.{Active}
 use Rattle.batch.specs.declared.parts.Stamped.{Stamped}
+use Rattle.batch.specs.declared.parts.Time.{Time}
 use Rattle.batch.specs.Passing.{time_by, with_time}
-use Rattle.batch.specs.Tally.{count_place, counter_at_place, bound_at, Bounds, stamped_by, with_active}
+use Rattle.batch.specs.Tally.{count_place, counter_at_place, bound_at, Bounds, stamp_at, stamped_by, with_active}
 
 -- the clock and the timer that a call leaves are all that its own rule changes, and nothing turns it away
-abbrev pub Alone : Monitor → Call → Type 0
-Alone m c = (with_time m (time_by m c) ≡ after c m) × (refusal_of c ≡ None)
+abbrev pub Alone : Monitor → Call → Time → Type 0
+Alone m c t = (with_time m t ≡ after c m) × (refusal_of c ≡ None)
 
 -- a call that is said to change the clock and the timer alone does so
 abbrev pub TimeAlone : Type 0
-TimeAlone = (m : Monitor) (c : Call) → (time_by m c).alone ≡ true → Alone m c
+TimeAlone = (m : Monitor) (c : Call) (t : Time) → time_by m c ≡ Some t → Alone m c t
 
 -- one more at a place, not held: that comes when the record is put together
 abbrev pub one_more_at : List ℕ → ℕ → List ℕ
@@ -49,19 +50,18 @@ stamped_in a p n l =
     record {
       counts = one_more_at a.counts p;
       bounds = set a.bounds p l.bound;
-      stamps = set a.stamps n l.stamp;
-      latencies = set a.latencies n l.latency;
-      units = set a.units n l.units;
-      loaded = set a.loaded n l.loaded;
+      stamps = set a.stamps n l.stamp.stamp;
+      latencies = set a.latencies n l.stamp.latency;
+      units = set a.units n l.stamp.units;
+      loaded = set a.loaded n l.stamp.loaded;
     }
 
--- what `stamped` makes of a completion at place p, for counter n, and that it says so
+-- what `stamped` makes of a completion at place p, for counter n
 abbrev pub Stamps : Monitor → Active → Command → (p n : ℕ) → Stamped → Type 0
 Stamps m a c p n l =
     (p ≡ count_place m.settings c)
     × (n ≡ counter_at_place p)
-    × (l ≡ stamped_by m p c (get_or a.stamps n 0) (get_or a.latencies n 0) (get_or a.units n false) (get_or a.loaded n 0))
-    × (l.alone ≡ true)
+    × (stamped_by m p c (stamp_at a n) ≡ Some l)
 
 -- a completion that is said to load its stamp at the most does so
 abbrev pub StampsAlone : Type 0
