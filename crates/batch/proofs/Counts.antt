@@ -2,7 +2,7 @@
 use mathlib.Core.Path.{◌≡◌, refl, sym, ap, ◌∙◌}
 use mathlib.Core.Bool.{Bool, true, false, cond, true≢false, ◌||◌}
 use mathlib.Core.List.{List}
-use Rattle.std.specs.Prelude.{Option, None, Some, unwrap_or}
+use Rattle.std.specs.Prelude.{Option, None, Some, option_map}
 use Prim.Native.Nat.{ℕ, ◌+◌, ◌*◌, ◌-◌, ◌≤◌, ◌<◌}
 use native.Mathlib.Omega.{arith}
 use borrow.Author.Tests.{eqb-true, eqb-false, lt-ltb, le-ltb, leb-false, lt-leb, ltb-true, ltb-false}
@@ -23,12 +23,13 @@ use Rattle.rules.specs.Refusals.{unordered}
 use Rattle.rules.specs.Timer.{in_window}
 use Rattle.batch.specs.declared.parts.Active.{Active}
 use Rattle.batch.specs.declared.parts.Stamped.{Stamped}
-use Rattle.std.proofs.lemmas.Option.{cond_some}
+use Rattle.std.proofs.lemmas.Option.{cond_some, none-some, same_Some}
 use Rattle.batch.specs.Tally.{bucket_place, kind_place, count_place, held_all, counter_at_place, bound_for, counter_bound}
 use Rattle.batch.specs.Tally.{AtMost, bound_at, Bounds, at_most_loads, stamp_at, stamped_by, with_active}
-use Rattle.batch.specs.Claims.{one_more_at, with_counts, stamped_in, CountsAlone, StampsAlone, BoundsFollow}
-use Rattle.batch.proofs.tally.Laws.{kindless-place, held_at, held-set, has-counter}
-use Rattle.rules.proofs.commands.Laws.{Becomes, slow, fast, kindless, disabled, becomes, bucket-few, kind-few}
+use Rattle.batch.specs.Tally.{one_more_at, with_counts, stamped_in, completed_by}
+use Rattle.batch.specs.Claims.{CountsAlone, StampsAlone, BoundsFollow, CompletesAlone}
+use Rattle.batch.proofs.tally.Laws.{bucket_place_few, kindless-place, held_at, held-set, has-counter}
+use Rattle.rules.proofs.commands.Laws.{Becomes, slow, fast, kindless, disabled, becomes}
 use Rattle.rules.proofs.commands.Laws.{below-latency-above}
 
 -- counts that are at most so many, after another at a place
@@ -102,23 +103,6 @@ below-is s c e = by (reaches_a s.thresholds c) refl
     by : (a : Bool) → reaches_a s.thresholds c ≡ a → a ≡ false
     by false h = refl
     by true h = absurd (true≢false (sym (rw h at e)))
-
--- there are 28 places
-pub bucket-place-few : (thresholds : List ℕ) (c : Command) → bucket_place (bucket_of thresholds c) ≤ 12
-bucket-place-few thresholds c = by (bucket_of thresholds c) refl
-  where
-    by : (o : Option ℕ) → bucket_of thresholds c ≡ o → bucket_place o ≤ 12
-    by (Some b) e = omega (arith, bucket-few thresholds c b e)
-    by None e = omega arith
-
-pub kind-place-few : (enabled : Bool) (c : Command) → kind_place enabled c ≤ 15
-unfolding kind_place
-kind-place-few false c = omega arith
-kind-place-few true c = by (kind_of c) refl
-  where
-    by : (o : Option ℕ) → kind_of c ≡ o → unwrap_or o 15 ≤ 15
-    by (Some k) e = omega (arith, kind-few c k e)
-    by None e = omega arith
 
 -- a command of a kind, while enabled
 kind-place-is :
@@ -198,7 +182,7 @@ placed s c p place in_order = by (becomes s c)
         for-counter (omega arith) (rw same at counter)
     by (fast k few on kind is counter e) =
         let added = kind-place-is s c k on kind in
-        let less : p < 15 = omega (arith, added, bucket-place-few s.thresholds c) in
+        let less : p < 15 = omega (arith, added, bucket_place_few s.thresholds c) in
         let bucket = ap bucket_place (below-a-bucket s.thresholds c (in_order less) (below-is s c is)) in
         below k few (omega (arith, added, bucket)) counter e
     by (kindless kind counter e) = nowhere (past (kindless-place s.enabled c kind)) counter e
@@ -380,6 +364,76 @@ stamps-alone m a c p n l s = stamped-alone m a c p n l s.0 s.1 s.2
 
 pub bounds-follow : BoundsFollow
 bounds-follow m a c p n l s = stamped-bounds m a c p n l s.0 s.1 s.2
+
+-- both together
+module _
+    (m : Monitor)
+    (a next : Active)
+    (c : Command)
+    (before : Bounds (with_active m a) a.bounds)
+    (all : length a.bounds ≡ 28)
+    (twelve : length a.stamps ≡ 12)
+    (as_many : length a.latencies ≡ 12)
+  where
+    abbrev its-place : ℕ
+    its-place = count_place m.settings c
+
+    abbrev Follows : Type 0
+    Follows = (with_active m next ≡ after_completion (with_active m a) c) × Bounds (with_active m next) next.bounds
+
+    counted : ltb c.latency (get_or a.bounds its-place 0) ≡ true → with_counts a (one_more_at a.counts its-place) ≡ next → Follows
+    unfolding bound_at bound_for
+    counted lower is =
+        let below : its-place < 15 → c.latency < bound_at (with_active m a) its-place =
+        λ h. rw (before its-place h) at (ltb-true _ _ lower)
+        in
+        rw (← is) (counts_alone m a c its-place refl below, before)
+
+    loaded :
+        (o : Option Stamped) →
+        stamped_by m its-place c (stamp_at a (counter_at_place its-place)) ≡ o →
+        option_map (stamped_in a its-place (counter_at_place its-place)) o ≡ Some next →
+        Follows
+    loaded None e is = absurd (none-some next is)
+    loaded (Some l) e is =
+        let same : stamped_in a its-place (counter_at_place its-place) l ≡ next = same_Some _ _ is in
+        rw (← same)
+        (stamps-alone m a c its-place _ l (refl, refl, e), bounds-follow m a c its-place _ l (refl, refl, e) before all twelve as_many)
+
+    completes : completed_by m a its-place c ≡ Some next → Follows
+    unfolding completed_by
+    completes is = by (ltb c.latency (get_or a.bounds its-place 0)) refl
+      where
+        by : (t : Bool) → ltb c.latency (get_or a.bounds its-place 0) ≡ t → Follows
+        by true e = counted e (same_Some _ _ (rw e at is))
+        by false e = loaded _ refl (rw e at is)
+
+pub completes-alone : CompletesAlone
+completes-alone m a next c is before all twelve as_many = completes m a next c before all twelve as_many is
+
+-- a count more
+pub room-for-more :
+    (m : Monitor) (a next : Active) (place top : ℕ) (c : Command) →
+    completed_by m a place c ≡ Some next →
+    AtMost top a.counts →
+    AtMost (top + 1) next.counts
+unfolding completed_by
+room-for-more m a next place top c is few =
+    by (ltb c.latency (get_or a.bounds place 0)) refl
+  where
+    one : AtMost (top + 1) (one_more_at a.counts place)
+    one = at-most-set a.counts place (get_or a.counts place 0 + 1) few (omega arith) (omega (arith, few place))
+
+    stamps :
+        (o : Option Stamped) →
+        option_map (stamped_in a place (counter_at_place place)) o ≡ Some next →
+        AtMost (top + 1) next.counts
+    stamps None e = absurd (none-some next e)
+    stamps (Some l) e = rw (← same_Some _ _ e) one
+
+    by : (t : Bool) → ltb c.latency (get_or a.bounds place 0) ≡ t → AtMost (top + 1) next.counts
+    by true e = rw (← same_Some _ _ (rw e at is)) one
+    by false e = stamps _ (rw e at is)
 
 -- the counter of a place is one of twelve
 pub few-counters : (place : ℕ) → counter_at_place place < 12

@@ -1,8 +1,8 @@
 -- The active window, taken out of the record for a loop over many completions. Its counts stand in one list: counter
 -- n's at place n, and those below threshold A, by kind, at 12 to 14. A place from 15 on is that of no count. Counts go
 -- on past their top, where the record holds them.
-use Rattle.std.specs.Prelude.{Bool, false, cond, not, ◌&&◌, ◌||◌, List, map, ◌≡◌, ℕ, ◌+◌, ◌-◌, ◌*◌, ◌<◌, ◌≤◌, eqb, ltb, get_or, take, drop}
-use Rattle.std.specs.Prelude.{Option, None, Some, unwrap_or}
+use Rattle.std.specs.Prelude.{Bool, false, cond, not, ◌&&◌, ◌||◌, List, map, ◌≡◌, ℕ, ◌+◌, ◌-◌, ◌*◌, ◌<◌, ◌≤◌, eqb, ltb, get_or, set, take, drop}
+use Rattle.std.specs.Prelude.{Option, None, Some, unwrap_or, option_map}
 use Rattle.window.specs.Fields.{unset, window_of}
 use Rattle.logpage.specs.declared.fields.Settings.{Settings}
 use Rattle.rules.specs.declared.commands.Command.{Command}
@@ -98,6 +98,41 @@ stamped_by m place c s =
     in
     let next : Stamp = cond load (record { stamp = m.clock; latency = ms; units = m.host_set; loaded = time }) s in
     only_if (at_most_loads m place) (record { stamp = next; bound = bound_for m place next.stamp next.latency })
+
+-- one more at a place, not held: that comes when the record is put together
+abbrev pub one_more_at : List ℕ → ℕ → List ℕ
+one_more_at counts p = set counts p (get_or counts p 0 + 1)
+
+-- the active window with other counts
+abbrev pub with_counts : Active → List ℕ → Active
+with_counts a counts =
+    record {
+      counts = counts;
+      bounds = a.bounds;
+      stamps = a.stamps;
+      latencies = a.latencies;
+      units = a.units;
+      loaded = a.loaded;
+    }
+
+-- the active window after a completion at place p, for counter n
+abbrev pub stamped_in : Active → (p n : ℕ) → Stamped → Active
+stamped_in a p n l =
+    record {
+      counts = one_more_at a.counts p;
+      bounds = set a.bounds p l.bound;
+      stamps = set a.stamps n l.stamp.stamp;
+      latencies = set a.latencies n l.stamp.latency;
+      units = set a.units n l.stamp.units;
+      loaded = set a.loaded n l.stamp.loaded;
+    }
+
+-- the active window after a completion at a place; none where it does more than count there and load its counter's stamp
+unfoldable pub completed_by : Monitor → Active → (place : ℕ) → Command → Option Active
+completed_by m a place c =
+    let n : ℕ = counter_at_place place in
+    cond (ltb c.latency (get_or a.bounds place 0)) (Some (with_counts a (one_more_at a.counts place)))
+    (option_map (stamped_in a place n) (stamped_by m place c (stamp_at a n)))
 
 -- the record with another active window
 abbrev pub with_active : Monitor → Active → Monitor

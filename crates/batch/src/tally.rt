@@ -1,12 +1,15 @@
 // The active window, taken out of the record for a loop over many completions. Its counts stand in one array: counter
 // n's at place n, and those below threshold A, by kind, at 12 to 14. From place 15 on none is kept. Counts go on past
 // their top, where the record holds them.
-ghost use Rattle.std.specs.Prelude.{◌≡◌, ◌<◌, take, drop};
+ghost use Rattle.std.specs.Prelude.{◌≡◌, ◌<◌, false, take, drop};
+ghost use Rattle.monitor.specs.Calls.{only_if};
 ghost use Rattle.rules.specs.Counting.{held};
 ghost use Rattle.batch.specs.Tally.{bucket_place, code_of, kind_place, KindPlaces, held_all, AtMost, counter_at_place};
-ghost use Rattle.batch.specs.Tally.{bound_for, Bounds, at_most_loads, stamped_by, with_active};
+ghost use Rattle.batch.specs.Tally.{bound_for, Bounds, at_most_loads, stamp_at, stamped_by, completed_by, with_active};
+ghost use Rattle.batch.specs.Tally.{count_place};
 
 use crate::parts::{Active, Stamp, Stamped};
+use logpage::Settings;
 use monitor::Monitor;
 use rules::commands::Command;
 use rules::{commands, counting, settings, timer};
@@ -223,4 +226,72 @@ pub fn stamped(m: Monitor, place: usize, c: Command, stamp: Stamp) -> Option<Sta
     };
     let bound = bound_for(m, place, stamp.stamp, stamp.latency);
     Some(Stamped { stamp, bound })
+}
+
+// The places of counts under settings.
+#[derive(Clone, Copy)]
+pub struct Places {
+    settings: Settings,
+    kinds: [u8; 512],
+    ghost by_kind: { KindPlaces settings.enabled kinds },
+}
+
+impl Places {
+    pub fn of(settings: Settings) -> Self
+        ensures { result.settings ≡ settings }
+    {
+        let kinds = kind_places(settings.enabled);
+        Places { settings, kinds }
+    }
+
+    // The place of a completion's count.
+    #[tactic(auto, using(crate::proofs::tally::Laws::few_places))]
+    pub fn place(&self, c: Command) -> usize
+        ensures place { result ≡ count_place self.now.settings c }
+        ensures few { result < 28 }
+    {
+        let thresholds = self.settings.thresholds;
+        bucket_place(c.bucket(thresholds)) + usize::from(self.kinds[code(c)])
+    }
+}
+
+impl Active {
+    // Counter n's stamp, with what is kept beside it.
+    fn stamp(&self, n: usize) -> Stamp
+        requires { n < 12 }
+        ensures { result ≡ stamp_at self.now n }
+    {
+        Stamp {
+            stamp: self.stamps[n],
+            latency: self.latencies[n],
+            units: self.units[n],
+            loaded: self.loaded[n],
+        }
+    }
+
+    #[tactic(auto, unfolding(crate::specs::Tally::completed_by))]
+    // A completion at a place. False where it does more than count there and load its counter's stamp: then nothing is
+    // done.
+    pub fn completion(&mut self, m: &Monitor, place: usize, c: Command) -> bool
+        requires place { place < 28 }
+        requires room { AtMost 18446744073709551614 self.old.counts }
+        ensures next { only_if result self.new ≡ completed_by m.now self.old place c }
+        ensures kept { result ≡ false → self.new ≡ self.old }
+    {
+        if c.latency < self.bounds[place] {
+            self.counts[place] += 1;
+            return true;
+        }
+        let n = counter_at(place);
+        let Some(stamped) = stamped(*m, place, c, self.stamp(n)) else {
+            return false;
+        };
+        self.counts[place] += 1;
+        self.bounds[place] = stamped.bound;
+        self.stamps[n] = stamped.stamp.stamp;
+        self.latencies[n] = stamped.stamp.latency;
+        self.units[n] = stamped.stamp.units;
+        self.loaded[n] = stamped.stamp.loaded;
+        true
+    }
 }

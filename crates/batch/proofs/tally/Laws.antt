@@ -2,7 +2,7 @@
 use mathlib.Core.Path.{◌≡◌, refl, sym, ap, ◌∙◌}
 use mathlib.Core.Bool.{Bool, true, false, cond, not, ◌&&◌, true≢false}
 use mathlib.Core.List.{List, [], ◌∷◌, ◌++◌}
-use Rattle.std.specs.Prelude.{None}
+use Rattle.std.specs.Prelude.{Option, None, Some, unwrap_or}
 use Prim.Native.Nat.{ℕ, zero, suc, ◌+◌, ◌-◌, ◌*◌, ◌/◌, ◌%◌, ◌≤◌, ◌<◌}
 use native.Mathlib.Omega.{arith}
 use borrow.Author.Tests.{eq-eqb, ne_eqb, ltb-true, ltb-false}
@@ -11,13 +11,15 @@ use borrow.Rule.Slice.PartMut.{put_mid}
 use lib.ListN.{length, get_or, set, take, drop, replicate, get_or-append, get_or-replicate, get_or-map}
 use Rattle.std.proofs.lemmas.List.{take-append-le, drop-append-le, take_all, drop_all}
 use lib.Seq.{get_or-append_right, get_or-drop}
+use Rattle.logpage.specs.declared.fields.Settings.{Settings}
 use Rattle.rules.specs.declared.commands.Command.{Command}
-use Rattle.rules.specs.Commands.{kind_of}
+use Rattle.rules.proofs.commands.Laws.{bucket-few, kind-few}
+use Rattle.rules.specs.Commands.{kind_of, bucket_of}
 use Rattle.rules.specs.Counting.{held}
 use Rattle.monitor.specs.declared.record.Monitor.{Monitor}
 use Rattle.rules.specs.Refusals.{unordered}
 use Rattle.monitor.specs.Record.{triggers_at}
-use Rattle.batch.specs.Tally.{code_of, kind_place, KindPlaces, held_all, AtMost, counter_bound, bound_at, Bounds, at_most_loads}
+use Rattle.batch.specs.Tally.{bucket_place, count_place, code_of, kind_place, KindPlaces, held_all, AtMost, counter_bound, bound_at, Bounds, at_most_loads}
 
 -- a command of each code
 abbrev pub command_at : ℕ → Command
@@ -61,6 +63,26 @@ pub kindless-place : (enabled : Bool) (c : Command) → kind_of c ≡ None → k
 unfolding kind_place
 kindless-place true c kind = rw kind
 kindless-place false c kind = refl
+
+-- there are 28 places
+pub bucket_place_few : (thresholds : List ℕ) (c : Command) → bucket_place (bucket_of thresholds c) ≤ 12
+bucket_place_few thresholds c = by (bucket_of thresholds c) refl
+  where
+    by : (o : Option ℕ) → bucket_of thresholds c ≡ o → bucket_place o ≤ 12
+    by (Some b) e = omega (arith, bucket-few thresholds c b e)
+    by None e = omega arith
+
+pub kind_place_few : (enabled : Bool) (c : Command) → kind_place enabled c ≤ 15
+unfolding kind_place
+kind_place_few false c = omega arith
+kind_place_few true c = by (kind_of c) refl
+  where
+    by : (o : Option ℕ) → kind_of c ≡ o → unwrap_or o 15 ≤ 15
+    by (Some k) e = omega (arith, kind-few c k e)
+    by None e = omega arith
+
+pub few_places : (s : Settings) (c : Command) → count_place s c < 28
+few_places s c = omega (arith, bucket_place_few s.thresholds c, kind_place_few s.enabled c)
 
 -- a place of the counts as the record holds them
 pub held_at : (counts : List ℕ) (place : ℕ) → get_or (held_all counts) place 0 ≡ held (get_or counts place 0)
