@@ -2,19 +2,20 @@
 use mathlib.Core.Path.{◌≡◌, refl, sym, ap, ◌∙◌}
 use mathlib.Core.Bool.{Bool, true, false, cond, true≢false, ◌||◌}
 use mathlib.Core.List.{List}
-use Rattle.std.specs.Prelude.{Option, None, Some}
-use Prim.Native.Nat.{ℕ, zero, suc, ◌+◌, ◌*◌, ◌-◌, ◌≤◌, ◌<◌}
+use Rattle.std.specs.Prelude.{Option, None, Some, option_map}
+use Prim.Native.Nat.{ℕ, ◌+◌, ◌*◌, ◌-◌, ◌≤◌, ◌<◌}
 use native.Mathlib.Omega.{arith}
 use borrow.Author.Tests.{eqb-true, eqb-false, lt-ltb, le-ltb, leb-false, lt-leb, ltb-true, ltb-false}
 use lib.Dec.{eqb, ltb}
-use lib.ListN.{length, get_or, set, take, drop, replicate}
+use lib.ListN.{length, get_or, set, take, drop}
 use lib.Seq.{get_or-take, get_or-drop, get_or-set_same, get_or-set_other, set-get_or, take-set-le, take-set-lt, drop-set-add}
 use lib.Seq.{drop-set-lt, set_out}
-use Rattle.window.specs.Fields.{unset}
+use Rattle.window.specs.Fields.{unset, window_of}
+use Rattle.monitor.specs.Fields.{with_active_window}
 use Rattle.logpage.specs.declared.fields.Settings.{Settings}
 use Rattle.rules.specs.declared.commands.Command.{Command}
 use Rattle.monitor.specs.declared.record.Monitor.{Monitor}
-use Rattle.rules.specs.Commands.{kind_of, kind_number, reaches, reaches_a, highest, bucket_of, bucket_number}
+use Rattle.rules.specs.Commands.{kind_of, reaches, reaches_a, highest, bucket_of}
 use Rattle.rules.specs.Commands.{counter_at, counter_of, is_below_a, below_a_of, milliseconds_of}
 use Rattle.rules.specs.Counting.{bit, held, once_more, once_more_at, loads, counted_in}
 use Rattle.monitor.specs.Record.{after_completion, loads_at, triggers_at}
@@ -22,11 +23,13 @@ use Rattle.rules.specs.Refusals.{unordered}
 use Rattle.rules.specs.Timer.{in_window}
 use Rattle.batch.specs.declared.parts.Active.{Active}
 use Rattle.batch.specs.declared.parts.Stamped.{Stamped}
-use Rattle.batch.specs.Tally.{kind_place, count_place, held_all, counter_at_place, bound_for, counter_bound}
-use Rattle.batch.specs.Tally.{AtMost, bound_at, Bounds, at_most_loads, stamped_by, with_active}
-use Rattle.batch.specs.Claims.{one_more_at, with_counts, stamped_in, CountsAlone, StampsAlone, BoundsFollow}
-use Rattle.batch.proofs.tally.Laws.{held_at, held-set, has-counter}
-use Rattle.rules.proofs.commands.Laws.{Becomes, slow, fast, kindless, disabled, becomes, bucket-few}
+use Rattle.std.proofs.lemmas.Option.{cond_some, none-some, same_Some}
+use Rattle.batch.specs.Tally.{bucket_place, kind_place, count_place, held_all, counter_at_place, bound_for, counter_bound}
+use Rattle.batch.specs.Tally.{AtMost, bound_at, Bounds, at_most_loads, stamp_at, stamped_by, with_active}
+use Rattle.batch.specs.Tally.{one_more_at, with_counts, stamped_in, completed_by}
+use Rattle.batch.specs.Claims.{CountsAlone, StampsAlone, BoundsFollow, CompletesAlone}
+use Rattle.batch.proofs.tally.Laws.{bucket_place_few, kindless-place, held_at, held-set, has-counter}
+use Rattle.rules.proofs.commands.Laws.{Becomes, slow, fast, kindless, disabled, becomes}
 use Rattle.rules.proofs.commands.Laws.{below-latency-above}
 
 -- counts that are at most so many, after another at a place
@@ -50,23 +53,6 @@ at-most-set {top' = top'} counts place v before more few p = by (eqb p place) re
     by true e false h =
         rw (set_out counts place v (ltb-false place (length counts) h)) (omega (arith, before p))
     by false e u h = rw (get_or-set_other counts place p v 0 (eqb-false p place e)) (omega (arith, before p))
-
-no-count : (top n : ℕ) → AtMost top (replicate n 0)
-no-count top zero place = omega arith
-no-count top (suc n) zero = omega arith
-no-count top (suc n) (suc place) = no-count top n place
-
-pub three-at-most :
-    {top : ℕ} (a b c : ℕ) →
-    a ≤ top →
-    b ≤ top →
-    c ≤ top →
-    AtMost top (set (set (set (replicate 28 0) 12 a) 13 b) 14 c)
-three-at-most {top} a b c first second third =
-    let None = no-count top 28 in
-    let one = at-most-set (replicate 28 0) 12 a None (omega arith) first in
-    let two = at-most-set (set (replicate 28 0) 12 a) 13 b one (omega arith) second in
-    at-most-set (set (set (replicate 28 0) 12 a) 13 b) 14 c two (omega arith) third
 
 neither : (a b : Bool) → (a || b) ≡ false → (a ≡ false) × (b ≡ false)
 neither false b h = (refl, h)
@@ -120,18 +106,9 @@ below-is s c e = by (reaches_a s.thresholds c) refl
 
 -- a command of a kind, while enabled
 kind-place-is :
-    (s : Settings) (c : Command) (k : ℕ) →
-    k < 3 →
-    s.enabled ≡ true →
-    kind_of c ≡ Some k →
-    kind_place s.enabled c ≡ k
+    (s : Settings) (c : Command) (k : ℕ) → s.enabled ≡ true → kind_of c ≡ Some k → kind_place s.enabled c ≡ k
 unfolding kind_place
-kind-place-is s c k few on kind = rw (on, kind, lt-ltb k 3 few)
-
-pub kindless-place : (enabled : Bool) (c : Command) → kind_of c ≡ None → kind_place enabled c ≡ 15
-unfolding kind_place
-kindless-place true c kind = rw kind
-kindless-place false c kind = refl
+kind-place-is s c k on kind = rw (on, kind)
 
 disabled-place : (enabled : Bool) (c : Command) → enabled ≡ false → kind_place enabled c ≡ 15
 unfolding kind_place
@@ -199,14 +176,14 @@ placed s c p place in_order = by (becomes s c)
 
     by : Becomes s c → Placed s c p
     by (slow k b few low on kind past-a counter) =
-        let added = kind-place-is s c k few on kind in
-        let bucket = ap bucket_number (bucket-is s c b k on kind counter) in
+        let added = kind-place-is s c k on kind in
+        let bucket = ap bucket_place (bucket-is s c b k on kind counter) in
         let same : 3 * b + k ≡ p = omega (arith, added, bucket) in
         for-counter (omega arith) (rw same at counter)
     by (fast k few on kind is counter e) =
-        let added = kind-place-is s c k few on kind in
-        let less : p < 15 = omega (arith, added, bucket-few s.thresholds c _ refl) in
-        let bucket = ap bucket_number (below-a-bucket s.thresholds c (in_order less) (below-is s c is)) in
+        let added = kind-place-is s c k on kind in
+        let less : p < 15 = omega (arith, added, bucket_place_few s.thresholds c) in
+        let bucket = ap bucket_place (below-a-bucket s.thresholds c (in_order less) (below-is s c is)) in
         below k few (omega (arith, added, bucket)) counter e
     by (kindless kind counter e) = nowhere (past (kindless-place s.enabled c kind)) counter e
     by (disabled off counter e) = nowhere (past (disabled-place s.enabled c off)) counter e
@@ -284,20 +261,33 @@ module _
     (l : Stamped)
     (place : p ≡ count_place m.settings c)
     (number : n ≡ counter_at_place p)
-    (is :
-    l ≡
-    stamped_by m p c (get_or a.stamps n 0) (get_or a.latencies n 0) (get_or a.units n false) (get_or a.loaded n 0))
-    (at_most : l.alone ≡ true)
+    (is : stamped_by m p c (stamp_at a n) ≡ Some l)
   where
     can-load : at_most_loads m p ≡ true
     unfolding stamped_by
-    can-load = rw is at at_most
+    can-load = (cond_some (at_most_loads m p) _ _ is).0
 
     its-counter : n ≡ p
     its-counter = rw (lt-ltb p 12 (has-counter m p can-load).0) at number
 
+    -- whether it loads the stamp
+    abbrev load : Bool
+    load = loads_at (with_active m a) p (milliseconds_of c)
+
+    its-stamp :
+        l.stamp ≡
+        cond load
+        (record { stamp = m.clock; latency = milliseconds_of c; units = m.host_set; loaded = in_window m.timer m.partial })
+        (stamp_at a p)
+    unfolding stamped_by
+    its-stamp = let e = rw (can-load, its-counter) at is in cc
+
+    its-bound : l.bound ≡ bound_for m p l.stamp.stamp l.stamp.latency
+    unfolding stamped_by
+    its-bound = let e = rw (can-load, its-counter) at is in cc
+
     stamped-alone : with_active m (stamped_in a p n l) ≡ after_completion (with_active m a) c
-    unfolding after_completion counted_in stamped_by
+    unfolding after_completion counted_in
     stamped-alone = by (placed m.settings c p place (λ less. (has-counter m p can-load).1))
       where
         by : Placed m.settings c p → with_active m (stamped_in a p n l) ≡ after_completion (with_active m a) c
@@ -305,25 +295,28 @@ module _
         by (nowhere h counter e) = absurd (omega (arith, (has-counter m p can-load).0))
         by (for-counter few counter) =
             let t = held_all a.counts in
-            let load = loads_at (with_active m a) p (milliseconds_of c) in
             rw (
-              is,
               its-counter,
-              can-load,
               counter,
               (has-counter m p can-load).2,
               held_more a.counts p,
               at_place t 12 p few,
               drop-set-lt 12 t p (once_more (get_or t p 0)) few,
-              set-or-keep load a.stamps p m.clock 0,
-              set-or-keep load a.latencies p (milliseconds_of c) 0,
-              set-or-keep load a.units p m.host_set false,
-              set-or-keep load a.loaded p (in_window m.timer m.partial) 0,
-            )
-
-    its-bound : l.bound ≡ bound_for m p l.stamp l.latency
-    unfolding stamped_by
-    its-bound = rw (is, can-load)
+            ) (either load refl)
+          where
+            either :
+                (t : Bool) →
+                load ≡ t →
+                with_active_window m
+                (window_of (once_more_at (take 12 (held_all a.counts)) p) (set a.stamps p l.stamp.stamp) (set a.latencies p l.stamp.latency) (set a.units p l.stamp.units))
+                (set a.loaded p l.stamp.loaded)
+                (take 3 (drop 12 (held_all a.counts)))
+                ≡ with_active_window m
+                (counted_in load p m.clock (milliseconds_of c) m.host_set (window_of (take 12 (held_all a.counts)) a.stamps a.latencies a.units))
+                (cond load (set a.loaded p (in_window m.timer m.partial)) a.loaded)
+                (take 3 (drop 12 (held_all a.counts)))
+            either true e = rw (its-stamp, e)
+            either false e = rw (its-stamp, e, set-get_or a.stamps p 0, set-get_or a.latencies p 0, set-get_or a.units p false, set-get_or a.loaded p 0)
 
     -- the bounds follow
     stamped-bounds :
@@ -342,8 +335,8 @@ module _
         elsewhere other =
             rw (
               its-counter,
-              get_or-set_other a.stamps p q l.stamp 0 other,
-              get_or-set_other a.latencies p q l.latency 0 other,
+              get_or-set_other a.stamps p q l.stamp.stamp 0 other,
+              get_or-set_other a.latencies p q l.stamp.latency 0 other,
             )
 
         by : (t : Bool) → eqb q p ≡ t → get_or (set a.bounds p l.bound) q 0 ≡ bound_at (with_active m (stamped_in a p n l)) q
@@ -355,8 +348,8 @@ module _
               get_or-set_same a.bounds p l.bound 0 (omega (arith, few)),
               (has-counter m p can-load).1,
               lt-ltb p 12 few,
-              get_or-set_same a.stamps p l.stamp 0 (omega (arith, few)),
-              get_or-set_same a.latencies p l.latency 0 (omega (arith, few)),
+              get_or-set_same a.stamps p l.stamp.stamp 0 (omega (arith, few)),
+              get_or-set_same a.latencies p l.stamp.latency 0 (omega (arith, few)),
             )
             its-bound
         by false e =
@@ -367,23 +360,80 @@ pub counts_alone : CountsAlone
 counts_alone = counted-alone
 
 pub stamps-alone : StampsAlone
-stamps-alone m a c p n l s = stamped-alone m a c p n l s.0 s.1 s.2 s.3
+stamps-alone m a c p n l s = stamped-alone m a c p n l s.0 s.1 s.2
 
 pub bounds-follow : BoundsFollow
-bounds-follow m a c p n l s = stamped-bounds m a c p n l s.0 s.1 s.2 s.3
+bounds-follow m a c p n l s = stamped-bounds m a c p n l s.0 s.1 s.2
 
--- there are 28 places
-pub kind-place-few : (enabled : Bool) (c : Command) → kind_place enabled c ≤ 15
-unfolding kind_place
-kind-place-few false c = omega arith
-kind-place-few true c = by (kind_number (kind_of c))
+-- both together
+module _
+    (m : Monitor)
+    (a next : Active)
+    (c : Command)
+    (before : Bounds (with_active m a) a.bounds)
+    (all : length a.bounds ≡ 28)
+    (twelve : length a.stamps ≡ 12)
+    (as_many : length a.latencies ≡ 12)
   where
-    by : (k : ℕ) → cond (ltb k 3) k 15 ≤ 15
-    by k = below (ltb k 3) refl
+    abbrev its-place : ℕ
+    its-place = count_place m.settings c
+
+    abbrev Follows : Type 0
+    Follows = (with_active m next ≡ after_completion (with_active m a) c) × Bounds (with_active m next) next.bounds
+
+    counted : ltb c.latency (get_or a.bounds its-place 0) ≡ true → with_counts a (one_more_at a.counts its-place) ≡ next → Follows
+    unfolding bound_at bound_for
+    counted lower is =
+        let below : its-place < 15 → c.latency < bound_at (with_active m a) its-place =
+        λ h. rw (before its-place h) at (ltb-true _ _ lower)
+        in
+        rw (← is) (counts_alone m a c its-place refl below, before)
+
+    loaded :
+        (o : Option Stamped) →
+        stamped_by m its-place c (stamp_at a (counter_at_place its-place)) ≡ o →
+        option_map (stamped_in a its-place (counter_at_place its-place)) o ≡ Some next →
+        Follows
+    loaded None e is = absurd (none-some next is)
+    loaded (Some l) e is =
+        let same : stamped_in a its-place (counter_at_place its-place) l ≡ next = same_Some _ _ is in
+        rw (← same)
+        (stamps-alone m a c its-place _ l (refl, refl, e), bounds-follow m a c its-place _ l (refl, refl, e) before all twelve as_many)
+
+    completes : completed_by m a its-place c ≡ Some next → Follows
+    unfolding completed_by
+    completes is = by (ltb c.latency (get_or a.bounds its-place 0)) refl
       where
-        below : (t : Bool) → ltb k 3 ≡ t → cond t k 15 ≤ 15
-        below true e = omega (arith, ltb-true k 3 e)
-        below false e = omega arith
+        by : (t : Bool) → ltb c.latency (get_or a.bounds its-place 0) ≡ t → Follows
+        by true e = counted e (same_Some _ _ (rw e at is))
+        by false e = loaded _ refl (rw e at is)
+
+pub completes-alone : CompletesAlone
+completes-alone m a next c is before all twelve as_many = completes m a next c before all twelve as_many is
+
+-- a count more
+pub room-for-more :
+    (m : Monitor) (a next : Active) (place top : ℕ) (c : Command) →
+    completed_by m a place c ≡ Some next →
+    AtMost top a.counts →
+    AtMost (top + 1) next.counts
+unfolding completed_by
+room-for-more m a next place top c is few =
+    by (ltb c.latency (get_or a.bounds place 0)) refl
+  where
+    one : AtMost (top + 1) (one_more_at a.counts place)
+    one = at-most-set a.counts place (get_or a.counts place 0 + 1) few (omega arith) (omega (arith, few place))
+
+    stamps :
+        (o : Option Stamped) →
+        option_map (stamped_in a place (counter_at_place place)) o ≡ Some next →
+        AtMost (top + 1) next.counts
+    stamps None e = absurd (none-some next e)
+    stamps (Some l) e = rw (← same_Some _ _ e) one
+
+    by : (t : Bool) → ltb c.latency (get_or a.bounds place 0) ≡ t → AtMost (top + 1) next.counts
+    by true e = rw (← same_Some _ _ (rw e at is)) one
+    by false e = stamps _ (rw e at is)
 
 -- the counter of a place is one of twelve
 pub few-counters : (place : ℕ) → counter_at_place place < 12

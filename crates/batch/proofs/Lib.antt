@@ -1,2 +1,2 @@
-pub mod Time
+pub mod Alone
 pub mod Counts

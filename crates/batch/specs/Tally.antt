@@ -1,23 +1,27 @@
 -- The active window, taken out of the record for a loop over many completions. Its counts stand in one list: counter
 -- n's at place n, and those below threshold A, by kind, at 12 to 14. A place from 15 on is that of no count. Counts go
 -- on past their top, where the record holds them.
-use Rattle.std.specs.Prelude.{Bool, cond, not, ◌&&◌, ◌||◌, List, map, ◌≡◌, ℕ, ◌+◌, ◌-◌, ◌*◌, ◌<◌, ◌≤◌, eqb, ltb, get_or, take, drop}
+use Rattle.std.specs.Prelude.{Bool, false, cond, not, ◌&&◌, ◌||◌, List, map, ◌≡◌, ℕ, ◌+◌, ◌-◌, ◌*◌, ◌<◌, ◌≤◌, eqb, ltb, get_or, set, take, drop}
+use Rattle.std.specs.Prelude.{Option, None, Some, unwrap_or, option_map}
 use Rattle.window.specs.Fields.{unset, window_of}
 use Rattle.logpage.specs.declared.fields.Settings.{Settings}
 use Rattle.rules.specs.declared.commands.Command.{Command}
 use Rattle.monitor.specs.declared.record.Monitor.{Monitor}
 use Rattle.batch.specs.declared.parts.Active.{Active}
+use Rattle.batch.specs.declared.parts.Stamp.{Stamp}
 use Rattle.batch.specs.declared.parts.Stamped.{Stamped}
-use Rattle.rules.specs.Commands.{kind_of, kind_number, bucket_of, bucket_number, milliseconds_of, latency_above}
+use Rattle.rules.specs.Commands.{kind_of, bucket_of, milliseconds_of, latency_above}
 use Rattle.rules.specs.Counting.{held, bit, loads}
+use Rattle.monitor.specs.Calls.{only_if}
 use Rattle.monitor.specs.Fields.{with_active_window}
 use Rattle.monitor.specs.Record.{triggers_at}
 use Rattle.rules.specs.Refusals.{unordered}
 use Rattle.rules.specs.Timer.{in_window}
 
--- a table of the place of each bucket's first count, by the bucket's number; that of none is the fifth
-abbrev pub BucketPlaces : List ℕ → Type 0
-BucketPlaces places = (bucket : ℕ) → bucket < 5 → get_or places bucket 0 ≡ 3 * bucket
+-- the place of a bucket's first count; a latency without a bucket is below threshold A
+abbrev pub bucket_place : Option ℕ → ℕ
+bucket_place (Some bucket) = 3 * bucket
+bucket_place None = 12
 
 -- all that a command's kind depends on: the opcode, and the deallocate attribute or bit
 abbrev pub code_of : Command → ℕ
@@ -25,7 +29,7 @@ code_of c = 2 * c.opcode + cond c.deallocate 1 0
 
 -- what the kind adds to the bucket's place: 15, past every count, where there is none or the monitor is disabled
 unfoldable pub kind_place : Bool → Command → ℕ
-kind_place enabled c = cond enabled (cond (ltb (kind_number (kind_of c)) 3) (kind_number (kind_of c)) 15) 15
+kind_place enabled c = cond enabled (unwrap_or (kind_of c) 15) 15
 
 -- a table of that, by code; an opcode is a byte
 abbrev pub KindPlaces : Bool → List ℕ → Type 0
@@ -33,7 +37,7 @@ KindPlaces enabled places = (c : Command) → code_of c < 512 → get_or places 
 
 -- the place of a completion's count
 abbrev pub count_place : Settings → Command → ℕ
-count_place s c = 3 * bucket_number (bucket_of s.thresholds c) + kind_place s.enabled c
+count_place s c = bucket_place (bucket_of s.thresholds c) + kind_place s.enabled c
 
 -- the counts as the record holds them
 abbrev pub held_all : List ℕ → List ℕ
@@ -73,24 +77,62 @@ unfoldable pub at_most_loads : Monitor → ℕ → Bool
 at_most_loads m place =
     ltb place 12 && (not (unordered m.settings.thresholds) && not (triggers_at m place))
 
--- 01, A completion, by its place: the counter's stamp, measured latency, stamp units and load time afterwards, the bound
--- of the place, and whether these and its count are all that it changes
-unfoldable pub stamped_by : Monitor → (place : ℕ) → Command → (stamp latency : ℕ) (units : Bool) (loaded : ℕ) → Stamped
-stamped_by m place c stamp latency units loaded =
+-- counter n's stamp in the active window, with all that is kept beside it
+abbrev pub stamp_at : Active → ℕ → Stamp
+stamp_at a n =
+    record {
+      stamp = get_or a.stamps n 0;
+      latency = get_or a.latencies n 0;
+      units = get_or a.units n false;
+      loaded = get_or a.loaded n 0;
+    }
+
+-- 01, A completion, by its place: its counter's stamp afterwards with all that a load stores beside it, and the bound of
+-- the place; none where these and its count are not all that it changes
+unfoldable pub stamped_by : Monitor → (place : ℕ) → Command → Stamp → Option Stamped
+stamped_by m place c s =
     let ms : ℕ = milliseconds_of c in
     let time : ℕ = in_window m.timer m.partial in
     let load : Bool =
-    at_most_loads m place
-    && loads stamp latency (time - loaded) ms (bit m.settings.mode place) m.settings.minimum_window
+    loads s.stamp s.latency (time - s.loaded) ms (bit m.settings.mode place) m.settings.minimum_window
     in
+    let next : Stamp = cond load (record { stamp = m.clock; latency = ms; units = m.host_set; loaded = time }) s in
+    only_if (at_most_loads m place) (record { stamp = next; bound = bound_for m place next.stamp next.latency })
+
+-- one more at a place, not held: that comes when the record is put together
+abbrev pub one_more_at : List ℕ → ℕ → List ℕ
+one_more_at counts p = set counts p (get_or counts p 0 + 1)
+
+-- the active window with other counts
+abbrev pub with_counts : Active → List ℕ → Active
+with_counts a counts =
     record {
-      stamp = cond load m.clock stamp;
-      latency = cond load ms latency;
-      units = cond load m.host_set units;
-      loaded = cond load time loaded;
-      bound = cond (at_most_loads m place) (bound_for m place (cond load m.clock stamp) (cond load ms latency)) 0;
-      alone = at_most_loads m place;
+      counts = counts;
+      bounds = a.bounds;
+      stamps = a.stamps;
+      latencies = a.latencies;
+      units = a.units;
+      loaded = a.loaded;
     }
+
+-- the active window after a completion at place p, for counter n
+abbrev pub stamped_in : Active → (p n : ℕ) → Stamped → Active
+stamped_in a p n l =
+    record {
+      counts = one_more_at a.counts p;
+      bounds = set a.bounds p l.bound;
+      stamps = set a.stamps n l.stamp.stamp;
+      latencies = set a.latencies n l.stamp.latency;
+      units = set a.units n l.stamp.units;
+      loaded = set a.loaded n l.stamp.loaded;
+    }
+
+-- the active window after a completion at a place; none where it does more than count there and load its counter's stamp
+unfoldable pub completed_by : Monitor → Active → (place : ℕ) → Command → Option Active
+completed_by m a place c =
+    let n : ℕ = counter_at_place place in
+    cond (ltb c.latency (get_or a.bounds place 0)) (Some (with_counts a (one_more_at a.counts place)))
+    (option_map (stamped_in a place n) (stamped_by m place c (stamp_at a n)))
 
 -- the record with another active window
 abbrev pub with_active : Monitor → Active → Monitor

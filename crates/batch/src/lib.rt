@@ -6,4 +6,4 @@ mod parts;
 pub mod passing;
 pub mod tally;
 
-pub use parts::{Active, Passed, Stamped};
+pub use parts::{Active, Stamp, Stamped, Time};

@@ -1,86 +1,73 @@
-// For a loop over many records: what a call makes of the clock and the timer, so that all else stays where it is.
+// For a loop over many records: what a call makes of the clock and the timer, where it changes these alone, so that all
+// else stays where it is.
 ghost use Rattle.std.specs.Prelude.{◌≡◌};
-ghost use Rattle.batch.specs.Passing.{standing, passed_by, clocked_by, powered_by, with_time};
+ghost use Rattle.batch.specs.Passing.{passed_by, clocked_by, powered_by, with_time};
 
-use crate::parts::Passed;
+use crate::parts::Time;
 use monitor::Monitor;
 use rules::timer;
 
-// Any other call, or none.
-pub fn standing(m: Monitor) -> Passed
-    ensures { result ≡ standing m }
-{
-    Passed {
-        clock: m.clock,
-        host_set: m.host_set,
-        timer: m.timer,
-        partial: m.partial,
-        alone: false,
-    }
-}
-
-// Elapsed time, in ms.
-pub fn passed(m: Monitor, ms: u32) -> Passed
+// Elapsed time, in ms; none where it is refused, or ends the active window.
+#[tactic(auto, unfolding(crate::specs::Passing::passed_by, rules::specs::Refusals::elapsed_refusal))]
+pub fn passed(m: Monitor, ms: u32) -> Option<Time>
     ensures { result ≡ passed_by m ms }
 {
-    if ms <= timer::ELAPSED_TOP {
-        let t = timer::ticked(
-            m.settings.enabled,
-            m.settings.timer_threshold,
-            m.timer,
-            m.partial,
-            ms,
-        );
-        let clock = timer::grown(m.clock, ms);
-        Passed {
-            clock,
-            host_set: m.host_set,
-            timer: t.timer,
-            partial: t.partial,
-            alone: !t.expired,
-        }
-    } else {
-        standing(m)
+    if timer::ELAPSED_TOP < ms {
+        return None;
     }
+    let t = timer::ticked(
+        m.settings.enabled,
+        m.settings.timer_threshold,
+        m.timer,
+        m.partial,
+        ms,
+    );
+    if t.expired {
+        return None;
+    }
+    Some(Time {
+        clock: timer::grown(m.clock, ms),
+        host_set: m.host_set,
+        timer: t.timer,
+        partial: t.partial,
+    })
 }
 
-// The host's clock, in ms.
-pub fn clocked(m: Monitor, value: u64) -> Passed
+// The host's clock, in ms; none where it is refused.
+#[tactic(auto, unfolding(crate::specs::Passing::clocked_by, rules::specs::Refusals::clock_refusal))]
+pub fn clocked(m: Monitor, value: u64) -> Option<Time>
     ensures { result ≡ clocked_by m value }
 {
-    if value <= timer::CLOCK_TOP {
-        Passed {
-            clock: value,
-            host_set: true,
-            timer: m.timer,
-            partial: m.partial,
-            alone: true,
-        }
-    } else {
-        standing(m)
+    if timer::CLOCK_TOP < value {
+        return None;
     }
+    Some(Time {
+        clock: value,
+        host_set: true,
+        timer: m.timer,
+        partial: m.partial,
+    })
 }
 
-// Power-up.
-pub fn powered(m: Monitor) -> Passed
+// Power-up, which nothing turns away.
+pub fn powered(m: Monitor) -> Time
     ensures { result ≡ powered_by m }
 {
-    Passed {
+    Time {
         clock: 0,
         host_set: false,
         timer: m.timer,
         partial: m.partial,
-        alone: true,
     }
 }
 
 // The record with this clock and timer.
-pub fn with_time(mut m: Monitor, p: Passed) -> Monitor
-    ensures { result ≡ with_time m p }
+pub fn with_time(mut m: Monitor, t: Time) -> Monitor
+    ensures { result ≡ with_time m t }
 {
-    m.clock = p.clock;
-    m.host_set = p.host_set;
-    m.timer = p.timer;
-    m.partial = p.partial;
+    m.clock = t.clock;
+    m.host_set = t.host_set;
+    m.timer = t.timer;
+    m.partial = t.partial;
     m
 }

@@ -1,12 +1,15 @@
 // The active window, taken out of the record for a loop over many completions. Its counts stand in one array: counter
 // n's at place n, and those below threshold A, by kind, at 12 to 14. From place 15 on none is kept. Counts go on past
 // their top, where the record holds them.
-ghost use Rattle.std.specs.Prelude.{◌≡◌, ◌≤◌, take, drop};
+ghost use Rattle.std.specs.Prelude.{◌≡◌, ◌<◌, false, take, drop};
+ghost use Rattle.monitor.specs.Calls.{only_if};
 ghost use Rattle.rules.specs.Counting.{held};
-ghost use Rattle.batch.specs.Tally.{BucketPlaces, kind_place, KindPlaces, held_all, AtMost, counter_at_place};
-ghost use Rattle.batch.specs.Tally.{bound_for, Bounds, at_most_loads, stamped_by, with_active};
+ghost use Rattle.batch.specs.Tally.{bucket_place, code_of, kind_place, KindPlaces, held_all, AtMost, counter_at_place};
+ghost use Rattle.batch.specs.Tally.{bound_for, Bounds, at_most_loads, stamp_at, stamped_by, completed_by, with_active};
+ghost use Rattle.batch.specs.Tally.{count_place};
 
-use crate::parts::{Active, Stamped};
+use crate::parts::{Active, Stamp, Stamped};
+use logpage::Settings;
 use monitor::Monitor;
 use rules::commands::Command;
 use rules::{commands, counting, settings, timer};
@@ -15,110 +18,87 @@ use window::{UNSET, Window};
 // The places that hold a counter.
 const COUNTERS: usize = 12;
 
+// The first place that holds a count below threshold A.
+const BELOW_A: usize = 12;
+
 // The first place that holds no count.
 const NO_PLACE: u8 = 15;
 
 // The bound where a completion can only count: every latency but the largest is below it.
-const NO_BOUND: u32 = 4_294_967_295;
+const NO_BOUND: u32 = u32::MAX;
 
-// The place of each bucket's first count; a latency without a bucket, number 4, is below threshold A. A table: the
-// compiler makes a branch of 3 times the number.
-pub fn bucket_places() -> [usize; 5]
-    ensures { BucketPlaces result }
+// The place of a bucket's first count; a latency without a bucket is below threshold A.
+pub fn bucket_place(bucket: Option<u16>) -> usize
+    ensures { result ≡ bucket_place bucket }
 {
-    [0, 3, 6, 9, 12]
+    match bucket {
+        Some(bucket) => 3 * usize::from(bucket),
+        None => BELOW_A,
+    }
 }
 
 // What a command's kind adds to that.
+#[tactic(auto, unfolding(crate::specs::Tally::kind_place))]
 fn kind_place(enabled: bool, c: Command) -> u8
     ensures { result ≡ kind_place enabled c }
 {
-    let kind = commands::kind_number(c.kind());
-    if enabled {
-        if kind < commands::NO_KIND {
-            kind as u8
-        } else {
-            NO_PLACE
-        }
-    } else {
-        NO_PLACE
+    match c.kind() {
+        Some(kind) if enabled => u16::from(kind) as u8,
+        _ => NO_PLACE,
     }
 }
 
-// The same by the command's code, for all of them: a table has no branch that a processor could guess wrong. No opcode
-// from 16 on has a kind.
+// All that a command's kind depends on, as one number.
+pub fn code(c: Command) -> usize
+    ensures code { result ≡ code_of c }
+    ensures few { result < 512 }
+{
+    2 * usize::from(c.opcode) + usize::from(c.deallocate)
+}
+
+// What a kind adds to a place, by the command's code, for all of them: a table has no branch that a processor could
+// guess wrong. No opcode from 16 on has a kind.
 pub fn kind_places(enabled: bool) -> [u8; 512]
     ensures { KindPlaces enabled result }
 {
-    let mut places: [u8; 512] = [NO_PLACE; 512];
-    let mut i: usize = 0;
-    while i < 32 {
-        let c = Command {
-            latency: 0,
-            opcode: (i / 2) as u8,
-            deallocate: i % 2 == 1,
-        };
-        places[i] = kind_place(enabled, c);
-        i += 1;
+    let mut places = [NO_PLACE; 512];
+    for (code, place) in places[..32].iter_mut().enumerate() {
+        *place = kind_place(
+            enabled,
+            Command {
+                latency: 0,
+                opcode: (code / 2) as u8,
+                deallocate: code % 2 == 1,
+            },
+        );
     }
     places
-}
-
-// A count of the record, to go on from.
-fn wide(count: u32) -> u64
-    ensures count { held result ≡ count }
-    ensures top { result ≤ 4294967295 }
-{
-    count as u64
 }
 
 // A count, held at its top.
 fn held(count: u64) -> u32
     ensures { result ≡ held count }
 {
-    if count < counting::COUNTER_TOP as u64 {
-        count as u32
-    } else {
-        counting::COUNTER_TOP
-    }
+    u32::try_from(count).unwrap_or(u32::MAX)
 }
 
 // Counts below threshold A and counters in one array.
 fn joined(below: [u32; 3], counters: [u32; 12]) -> [u64; 28]
     ensures below { take 3 (drop 12 (held_all result)) ≡ below }
     ensures counters { take 12 (held_all result) ≡ counters }
-    ensures top { AtMost 4294967295 result }
+    ensures top { AtMost u32.MAX result }
 {
-    let mut counts: [u64; 28] = [0; 28];
-    counts[12] = wide(below[0]);
-    counts[13] = wide(below[1]);
-    counts[14] = wide(below[2]);
-    let mut n = 0;
-    while n < 12 {
-        counts[n] = wide(counters[n]);
-        n += 1;
-    }
-    counts
+    let mut counts = [0; 28];
+    counts[..12].copy_from_slice(&counters);
+    counts[12..15].copy_from_slice(&below);
+    counts.map(u64::from)
 }
 
-// The counts below threshold A of such an array.
-fn below_of(counts: [u64; 28]) -> [u32; 3]
-    ensures { result ≡ take 3 (drop 12 (held_all counts)) }
+// The counts of such an array as the record holds them.
+fn held_all(counts: [u64; 28]) -> [u32; 28]
+    ensures { result ≡ held_all counts }
 {
-    [held(counts[12]), held(counts[13]), held(counts[14])]
-}
-
-// The counters of such an array.
-fn counters_of(counts: [u64; 28]) -> [u32; 12]
-    ensures { result ≡ take 12 (held_all counts) }
-{
-    let mut counters: [u32; 12] = [0; 12];
-    let mut n = 0;
-    while n < 12 {
-        counters[n] = held(counts[n]);
-        n += 1;
-    }
-    counters
+    counts.map(held)
 }
 
 // The counter of a place; 0 for a place that is no counter's.
@@ -130,12 +110,11 @@ pub fn counter_at(place: usize) -> usize
 
 // The latency from which on a completion for counter n, with this stamp and measured latency, may load the stamp, or
 // takes a debug log.
-fn bound(m: Monitor, n: usize, stamp: u64, latency: u16) -> u32
+#[tactic(auto, unfolding(crate::specs::Tally::bound_for))]
+fn bound_for(m: Monitor, n: usize, stamp: u64, latency: u16) -> u32
     ensures { result ≡ bound_for m n stamp latency }
 {
-    if counting::triggers(m.settings.trigger, n, m.debug.stamp) {
-        0
-    } else if stamp == UNSET {
+    if counting::triggers(m.settings.trigger, n, m.debug.stamp) || stamp == UNSET {
         0
     } else if counting::bit(m.settings.mode, n) {
         commands::latency_above(latency)
@@ -149,17 +128,14 @@ fn bounds(m: Monitor) -> [u32; 28]
     ensures { Bounds m result }
 {
     let thresholds = m.settings.thresholds;
-    let mut bounds: [u32; 28] = [0; 28];
     if settings::unordered(thresholds) {
-        return bounds;
+        return [0; 28];
     }
-    bounds = [NO_BOUND; 28];
     let stamps = m.active_window.stamps;
     let latencies = m.active_window.latencies;
-    let mut n = 0;
-    while n < 12 {
-        bounds[n] = bound(m, n, stamps[n], latencies[n]);
-        n += 1;
+    let mut bounds = [NO_BOUND; 28];
+    for (n, bound) in bounds[..COUNTERS].iter_mut().enumerate() {
+        *bound = bound_for(m, n, stamps[n], latencies[n]);
     }
     bounds
 }
@@ -168,7 +144,7 @@ fn bounds(m: Monitor) -> [u32; 28]
 pub fn active(m: Monitor) -> Active
     ensures window { with_active m result ≡ m }
     ensures bounds { Bounds m result.bounds }
-    ensures top { AtMost 4294967295 result.counts }
+    ensures top { AtMost u32.MAX result.counts }
 {
     let below_a = m.active_below_a;
     let counters = m.active_window.counters;
@@ -192,9 +168,11 @@ pub fn active(m: Monitor) -> Active
 pub fn with_active(mut m: Monitor, a: Active) -> Monitor
     ensures { result ≡ with_active m a }
 {
-    let counts = a.counts;
-    let below_a = below_of(counts);
-    let counters = counters_of(counts);
+    let counts = held_all(a.counts);
+    let mut below_a = [0; 3];
+    below_a.copy_from_slice(&counts[12..15]);
+    let mut counters = [0; 12];
+    counters.copy_from_slice(&counts[..12]);
     let stamps = a.stamps;
     let latencies = a.latencies;
     let units = a.units;
@@ -207,67 +185,113 @@ pub fn with_active(mut m: Monitor, a: Active) -> Monitor
 
 // Whether a completion has a counter, by its place, which says it for thresholds in order, and takes no debug log: then
 // it loads the stamp, at the most. Out of order the rule asks threshold A first, and the search for a bucket does not.
+#[tactic(auto, unfolding(crate::specs::Tally::at_most_loads))]
 fn at_most_loads(m: Monitor, place: usize) -> bool
     ensures { result ≡ at_most_loads m place }
 {
     let thresholds = m.settings.thresholds;
-    if place < COUNTERS {
-        if settings::unordered(thresholds) {
-            false
-        } else {
-            !counting::triggers(m.settings.trigger, place, m.debug.stamp)
+    place < COUNTERS
+        && !settings::unordered(thresholds)
+        && !counting::triggers(m.settings.trigger, place, m.debug.stamp)
+}
+
+// A completion at a place whose counter has this stamp; none where it does more than count there and load it.
+#[tactic(auto, unfolding(crate::specs::Tally::stamped_by))]
+pub fn stamped(m: Monitor, place: usize, c: Command, stamp: Stamp) -> Option<Stamped>
+    ensures { result ≡ stamped_by m place c stamp }
+{
+    if !at_most_loads(m, place) {
+        return None;
+    }
+    let ms = c.milliseconds();
+    let time = timer::in_window(m.timer, m.partial);
+    let loads = counting::loads(
+        stamp.stamp,
+        stamp.latency,
+        stamp.loaded,
+        ms,
+        counting::bit(m.settings.mode, place),
+        m.settings.minimum_window,
+        time,
+    );
+    let stamp = if loads {
+        Stamp {
+            stamp: m.clock,
+            latency: ms,
+            units: m.host_set,
+            loaded: time,
         }
     } else {
-        false
+        stamp
+    };
+    let bound = bound_for(m, place, stamp.stamp, stamp.latency);
+    Some(Stamped { stamp, bound })
+}
+
+// The places of counts under settings.
+#[derive(Clone, Copy)]
+pub struct Places {
+    settings: Settings,
+    kinds: [u8; 512],
+    ghost by_kind: { KindPlaces settings.enabled kinds },
+}
+
+impl Places {
+    pub fn of(settings: Settings) -> Self
+        ensures { result.settings ≡ settings }
+    {
+        let kinds = kind_places(settings.enabled);
+        Places { settings, kinds }
+    }
+
+    // The place of a completion's count.
+    #[tactic(auto, using(crate::proofs::tally::Laws::few_places))]
+    pub fn place(&self, c: Command) -> usize
+        ensures place { result ≡ count_place self.now.settings c }
+        ensures few { result < 28 }
+    {
+        let thresholds = self.settings.thresholds;
+        bucket_place(c.bucket(thresholds)) + usize::from(self.kinds[code(c)])
     }
 }
 
-// A completion at a place whose counter has this stamp, measured latency, stamp units and load time.
-pub fn stamped(
-    m: Monitor,
-    place: usize,
-    c: Command,
-    stamp: u64,
-    latency: u16,
-    units: bool,
-    loaded: u64,
-) -> Stamped
-    ensures { result ≡ stamped_by m place c stamp latency units loaded }
-{
-    if at_most_loads(m, place) {
-        let ms = c.milliseconds();
-        let time = timer::in_window(m.timer, m.partial);
-        let largest = counting::bit(m.settings.mode, place);
-        let minimum = m.settings.minimum_window;
-        if counting::loads(stamp, latency, loaded, ms, largest, minimum, time) {
-            let bound = bound(m, place, m.clock, ms);
-            Stamped {
-                stamp: m.clock,
-                latency: ms,
-                units: m.host_set,
-                loaded: time,
-                bound,
-                alone: true,
-            }
-        } else {
-            let bound = bound(m, place, stamp, latency);
-            Stamped {
-                stamp,
-                latency,
-                units,
-                loaded,
-                bound,
-                alone: true,
-            }
+impl Active {
+    // Counter n's stamp, with what is kept beside it.
+    fn stamp(&self, n: usize) -> Stamp
+        requires { n < 12 }
+        ensures { result ≡ stamp_at self.now n }
+    {
+        Stamp {
+            stamp: self.stamps[n],
+            latency: self.latencies[n],
+            units: self.units[n],
+            loaded: self.loaded[n],
         }
-    } else {
-        Stamped {
-            stamp,
-            latency,
-            units,
-            loaded,
-            bound: 0,
-            alone: false,
+    }
+
+    #[tactic(auto, unfolding(crate::specs::Tally::completed_by))]
+    // A completion at a place. False where it does more than count there and load its counter's stamp: then nothing is
+    // done.
+    pub fn completion(&mut self, m: &Monitor, place: usize, c: Command) -> bool
+        requires place { place < 28 }
+        requires room { AtMost 18446744073709551614 self.old.counts }
+        ensures next { only_if result self.new ≡ completed_by m.now self.old place c }
+        ensures kept { result ≡ false → self.new ≡ self.old }
+    {
+        if c.latency < self.bounds[place] {
+            self.counts[place] += 1;
+            return true;
         }
+        let n = counter_at(place);
+        let Some(stamped) = stamped(*m, place, c, self.stamp(n)) else {
+            return false;
+        };
+        self.counts[place] += 1;
+        self.bounds[place] = stamped.bound;
+        self.stamps[n] = stamped.stamp.stamp;
+        self.latencies[n] = stamped.stamp.latency;
+        self.units[n] = stamped.stamp.units;
+        self.loaded[n] = stamped.stamp.loaded;
+        true
     }
 }

@@ -51,11 +51,6 @@ highest_below thresholds us n = highest (λ (b : ℕ). reaches us (get_or thresh
 unfoldable pub bucket_of : List ℕ → Command → Option ℕ
 bucket_of thresholds c = highest_below thresholds c.latency 4
 
--- the bucket as a number: four is that of none
-abbrev pub bucket_number : Option ℕ → ℕ
-bucket_number (Some b) = b
-bucket_number None = 4
-
 -- 01, The monitor's record: the counter of a bucket and a kind, by number (document 01: pair, pair number)
 abbrev pub counter_at : Option ℕ → Option ℕ → Option ℕ
 counter_at (Some b) (Some k) = Some (3 * b + k)
@@ -79,11 +74,6 @@ is_below_a s c = not (reaches_a s.thresholds c) && s.enabled
 
 unfoldable pub below_a_of : Settings → Command → Option ℕ
 below_a_of s c = cond (is_below_a s c) (kind_of c) None
-
--- the kind as a number: three is that of none
-abbrev pub kind_number : Option ℕ → ℕ
-kind_number (Some k) = k
-kind_number None = 3
 
 -- 01, A completion: the whole ms of a latency, as many as two bytes hold
 unfoldable pub milliseconds_of : Command → ℕ

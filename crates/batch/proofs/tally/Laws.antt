@@ -1,37 +1,25 @@
--- Laws of tables that are filled place by place, of codes, and of the parts of the counts.
+-- Laws of codes, of the parts of the counts, and of bounds.
 use mathlib.Core.Path.{◌≡◌, refl, sym, ap, ◌∙◌}
 use mathlib.Core.Bool.{Bool, true, false, cond, not, ◌&&◌, true≢false}
-use mathlib.Core.List.{List, [], ◌∷◌}
-use Rattle.std.specs.Prelude.{None}
-use Prim.Native.Nat.{ℕ, zero, suc, ◌+◌, ◌*◌, ◌/◌, ◌%◌, ◌≤◌, ◌<◌}
+use mathlib.Core.List.{List, [], ◌∷◌, ◌++◌}
+use Rattle.std.specs.Prelude.{Option, None, Some, unwrap_or}
+use Prim.Native.Nat.{ℕ, zero, suc, ◌+◌, ◌-◌, ◌*◌, ◌/◌, ◌%◌, ◌≤◌, ◌<◌}
 use native.Mathlib.Omega.{arith}
-use borrow.Author.Tests.{eqb-true, eqb-false, eq-eqb, ne_eqb, ltb-true, ltb-false}
+use borrow.Author.Tests.{eq-eqb, ne_eqb, ltb-true, ltb-false}
 use lib.Dec.{eqb, ltb}
-use lib.ListN.{length, get_or, set, take, replicate, length-take, get_or-replicate, get_or-map}
-use lib.Seq.{get_or-set_same, get_or-set_other, get_or-take, ext_get_or}
+use borrow.Rule.Slice.PartMut.{put_mid}
+use lib.ListN.{length, get_or, set, take, drop, replicate, get_or-append, get_or-replicate, get_or-map}
+use Rattle.std.proofs.lemmas.List.{take-append-le, drop-append-le, take_all, drop_all}
+use lib.Seq.{get_or-append_right, get_or-drop}
+use Rattle.logpage.specs.declared.fields.Settings.{Settings}
 use Rattle.rules.specs.declared.commands.Command.{Command}
-use Rattle.rules.specs.Commands.{kind_of}
+use Rattle.rules.proofs.commands.Laws.{bucket-few, kind-few}
+use Rattle.rules.specs.Commands.{kind_of, bucket_of}
 use Rattle.rules.specs.Counting.{held}
 use Rattle.monitor.specs.declared.record.Monitor.{Monitor}
 use Rattle.rules.specs.Refusals.{unordered}
 use Rattle.monitor.specs.Record.{triggers_at}
-use Rattle.batch.specs.Tally.{code_of, kind_place, held_all, counter_bound, bound_at, Bounds, at_most_loads}
-
--- a table whose first places, as many as i, hold f
-module _ (f : ℕ → ℕ) where
-  abbrev pub Filled : List ℕ → ℕ → Type 0
-  Filled l i = (j : ℕ) → j < i → get_or l j 0 ≡ f j
-
-  pub filled_more : (l : List ℕ) (i v : ℕ) → Filled l i → i < length l → v ≡ f i → Filled (set l i v) (i + 1)
-  filled_more l i v before room e j h = by (eqb j i) refl
-    where
-      by : (t : Bool) → eqb j i ≡ t → get_or (set l i v) j 0 ≡ f j
-      by true s =
-          let same : j ≡ i = eqb-true j i s in
-          rw same (get_or-set_same l i v 0 room ∙ e)
-      by false s =
-          let other = eqb-false j i s in
-          get_or-set_other l i j v 0 other ∙ before j (omega arith)
+use Rattle.batch.specs.Tally.{bucket_place, count_place, code_of, kind_place, KindPlaces, held_all, AtMost, counter_bound, bound_at, Bounds, at_most_loads}
 
 -- a command of each code
 abbrev pub command_at : ℕ → Command
@@ -51,7 +39,7 @@ same_kind c = rw (opcode c.deallocate, attribute c.deallocate)
     attribute false = ne_eqb ((2 * c.opcode + 0) % 2) 1 (λ e. omega arith)
 
 -- and those from 32 on have none
-pub no_kind : (c : Command) → 32 ≤ code_of c → kind_of c ≡ None
+no_kind : (c : Command) → 32 ≤ code_of c → kind_of c ≡ None
 unfolding kind_of
 no_kind c h =
     let high = from c.deallocate h in
@@ -66,9 +54,35 @@ no_kind c h =
     from true h = omega arith
     from false h = omega arith
 
-pub same_place : (enabled : Bool) (c : Command) → kind_place enabled (command_at (code_of c)) ≡ kind_place enabled c
+-- so their places are the same
+same_place : (enabled : Bool) (c : Command) → kind_place enabled (command_at (code_of c)) ≡ kind_place enabled c
 unfolding kind_place
 same_place enabled c = rw (same_kind c)
+
+pub kindless-place : (enabled : Bool) (c : Command) → kind_of c ≡ None → kind_place enabled c ≡ 15
+unfolding kind_place
+kindless-place true c kind = rw kind
+kindless-place false c kind = refl
+
+-- there are 28 places
+pub bucket_place_few : (thresholds : List ℕ) (c : Command) → bucket_place (bucket_of thresholds c) ≤ 12
+bucket_place_few thresholds c = by (bucket_of thresholds c) refl
+  where
+    by : (o : Option ℕ) → bucket_of thresholds c ≡ o → bucket_place o ≤ 12
+    by (Some b) e = omega (arith, bucket-few thresholds c b e)
+    by None e = omega arith
+
+pub kind_place_few : (enabled : Bool) (c : Command) → kind_place enabled c ≤ 15
+unfolding kind_place
+kind_place_few false c = omega arith
+kind_place_few true c = by (kind_of c) refl
+  where
+    by : (o : Option ℕ) → kind_of c ≡ o → unwrap_or o 15 ≤ 15
+    by (Some k) e = omega (arith, kind-few c k e)
+    by None e = omega arith
+
+pub few_places : (s : Settings) (c : Command) → count_place s c < 28
+few_places s c = omega (arith, bucket_place_few s.thresholds c, kind_place_few s.enabled c)
 
 -- a place of the counts as the record holds them
 pub held_at : (counts : List ℕ) (place : ℕ) → get_or (held_all counts) place 0 ≡ held (get_or counts place 0)
@@ -79,23 +93,68 @@ held-set [] place v = refl
 held-set (x ∷ xs) zero v = refl
 held-set (x ∷ xs) (suc place) v = ap (λ (zs : List ℕ). held x ∷ zs) (held-set xs place v)
 
--- the twelve counters and the three counts below threshold A, by place
-pub the-counters :
-    (counts counters : List ℕ) →
-    length counts ≡ 28 →
-    length counters ≡ 12 →
-    Filled (λ (j : ℕ). get_or counters j 0) counts 12 →
-    take 12 counts ≡ counters
-the-counters counts counters all twelve filled =
-    let size : length (take 12 counts) ≡ 12 = omega (arith, length-take 12 counts) in
-    ext_get_or 0 (take 12 counts) counters (size ∙ sym twelve)
-    (λ i h. get_or-take 12 counts i 0 (omega arith) ∙ filled i (omega arith))
+-- a part of the counts, and the parts put together
+pub at-most-append :
+    (top : ℕ) (xs ys : List ℕ) → AtMost top xs → AtMost top ys → AtMost top (xs ++ ys)
+at-most-append top [] ys front back place = back place
+at-most-append top (x ∷ xs) ys front back zero = front zero
+at-most-append top (x ∷ xs) ys front back (suc place) =
+    at-most-append top xs ys (λ p. front (suc p)) back place
 
-pub first_three : (l : List ℕ) → 3 ≤ length l → get_or l 0 0 ∷ get_or l 1 0 ∷ get_or l 2 0 ∷ [] ≡ take 3 l
-first_three [] h = absurd (omega arith)
-first_three (a ∷ []) h = absurd (omega arith)
-first_three (a ∷ b ∷ []) h = absurd (omega arith)
-first_three (a ∷ b ∷ c ∷ l) h = refl
+no-count : (top n : ℕ) → AtMost top (replicate n 0)
+no-count top zero place = omega arith
+no-count top (suc n) zero = omega arith
+no-count top (suc n) (suc place) = no-count top n place
+
+-- counts of which none is above the top are held as they are
+held-same : (counts : List ℕ) → AtMost 4294967295 counts → held_all counts ≡ counts
+held-same [] most = refl
+held-same (x ∷ xs) most =
+    let same : held x ≡ x = omega (arith, most 0) in
+    rw (same, held-same xs (λ p. most (suc p)))
+
+-- counters, counts below threshold A behind them, and none after
+module _ (counters below : List ℕ) where
+  abbrev pub together : List ℕ
+  together = counters ++ (below ++ replicate 13 0)
+
+  module _ (twelve : length counters ≡ 12) where
+    pub put-behind : put_mid 12 3 (counters ++ replicate 16 0) below ≡ together
+    put-behind =
+        rw (
+          take-append-le 12 counters (replicate 16 0) (omega arith),
+          take_all 12 counters (omega arith),
+          drop-append-le 12 counters (replicate 16 0) (omega arith),
+          drop_all 12 counters (omega arith),
+        )
+
+    module _
+        (three : length below ≡ 3)
+        (few : AtMost 4294967295 counters)
+        (few-below : AtMost 4294967295 below)
+      where
+        pub at-most-joined : AtMost 4294967295 together
+        at-most-joined =
+            at-most-append 4294967295 counters (below ++ replicate 13 0) few
+            (at-most-append 4294967295 below (replicate 13 0) few-below (no-count 4294967295 13))
+
+        pub counters-joined : take 12 (held_all together) ≡ counters
+        counters-joined =
+            rw (
+              held-same together at-most-joined,
+              take-append-le 12 counters (below ++ replicate 13 0) (omega arith),
+              take_all 12 counters (omega arith),
+            )
+
+        pub below-joined : take 3 (drop 12 (held_all together)) ≡ below
+        below-joined =
+            rw (
+              held-same together at-most-joined,
+              drop-append-le 12 counters (below ++ replicate 13 0) (omega arith),
+              drop_all 12 counters (omega arith),
+              take-append-le 3 below (replicate 13 0) (omega arith),
+              take_all 3 below (omega arith),
+            )
 
 -- the bounds of all places that hold a count
 pub no-bounds : (m : Monitor) → unordered m.settings.thresholds ≡ true → Bounds m (replicate 28 0)
@@ -105,15 +164,46 @@ no-bounds m out place h = rw out (get_or-replicate 28 place 0 0 (omega arith))
 pub all-bounds :
     (m : Monitor) (bounds : List ℕ) →
     unordered m.settings.thresholds ≡ false →
-    Filled (counter_bound m) bounds 12 →
-    ((place : ℕ) → 12 ≤ place → place < 15 → get_or bounds place 0 ≡ 4294967295) →
-    Bounds m bounds
+    length bounds ≡ 12 →
+    ((n : ℕ) → n < 12 → get_or bounds n 0 ≡ counter_bound m n) →
+    Bounds m (bounds ++ replicate 16 4294967295)
 unfolding bound_at
-all-bounds m bounds in_order filled below place h = rw in_order (by (ltb place 12) refl)
+all-bounds m bounds in_order twelve filled place h = rw in_order (by (ltb place 12) refl)
   where
-    by : (t : Bool) → ltb place 12 ≡ t → get_or bounds place 0 ≡ cond (ltb place 12) (counter_bound m place) 4294967295
-    by true e = rw e (filled place (ltb-true place 12 e))
-    by false e = rw e (below place (ltb-false place 12 e) h)
+    by :
+        (t : Bool) →
+        ltb place 12 ≡ t →
+        get_or (bounds ++ replicate 16 4294967295) place 0 ≡ cond (ltb place 12) (counter_bound m place) 4294967295
+    by true e =
+        let few = ltb-true place 12 e in
+        rw (e, get_or-append bounds (replicate 16 4294967295) 0 place (omega arith)) (filled place few)
+    by false e =
+        let past = ltb-false place 12 e in
+        rw (e, get_or-append_right bounds (replicate 16 4294967295) place 0 (omega arith), twelve)
+        (get_or-replicate 16 (place - 12) 4294967295 0 (omega arith))
+
+-- the places of all codes
+pub all-places :
+    (enabled : Bool) (places : List ℕ) →
+    length places ≡ 32 →
+    ((code : ℕ) → code < 32 → get_or places code 0 ≡ kind_place enabled (command_at code)) →
+    KindPlaces enabled (places ++ drop 32 (replicate 512 15))
+all-places enabled places first filled c h = by (ltb (code_of c) 32) refl
+  where
+    by :
+        (t : Bool) →
+        ltb (code_of c) 32 ≡ t →
+        get_or (places ++ drop 32 (replicate 512 15)) (code_of c) 0 ≡ kind_place enabled c
+    by true e =
+        let low = ltb-true (code_of c) 32 e in
+        get_or-append places (drop 32 (replicate 512 15)) 0 (code_of c) (omega arith) ∙
+        (filled (code_of c) low ∙ same_place enabled c)
+    by false e =
+        let high = ltb-false (code_of c) 32 e in
+        let at : 32 + (code_of c - 32) ≡ code_of c = omega arith in
+        get_or-append_right places (drop 32 (replicate 512 15)) (code_of c) 0 (omega arith) ∙
+        rw (first, get_or-drop {A = ℕ} 32 (replicate 512 15) (code_of c - 32) 0, at)
+        (get_or-replicate 512 (code_of c) 15 0 h ∙ sym (kindless-place enabled c (no_kind c high)))
 
 -- a completion at such a place has a counter, and takes no debug log
 pub has-counter :

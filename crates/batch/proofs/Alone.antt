@@ -1,0 +1,50 @@
+-- Calls that change the clock and the timer alone.
+use mathlib.Core.Bool.{Bool, true, false}
+use Rattle.std.specs.Prelude.{Option, None, Some}
+use mathlib.Core.Path.{◌≡◌, refl}
+use Prim.Native.Nat.{ℕ}
+use Rattle.batch.specs.declared.parts.Time.{Time}
+use Rattle.monitor.specs.declared.record.Monitor.{Monitor}
+use Rattle.monitor.specs.Calls.{Call, settings, completion, elapsed, clock, power_up, page, settings_back, below_a}
+use Rattle.monitor.proofs.Laws.{nothing-there}
+use Rattle.batch.specs.Claims.{Alone, TimeAlone}
+use Rattle.batch.specs.Passing.{passed_by, clocked_by, time_by}
+use Rattle.monitor.specs.Record.{after_elapsed, after_clock, after_power_up, ticked_by}
+use Rattle.rules.specs.Refusals.{elapsed_refusal, clock_refusal}
+
+module _ (m : Monitor) (t : Time) where
+  elapsed-alone : (ms : ℕ) → passed_by m ms ≡ Some t → Alone m (elapsed ms) t
+  unfolding passed_by after_elapsed
+  elapsed-alone ms e = by (elapsed_refusal ms) refl ((ticked_by m ms).expired) refl
+    where
+      by :
+          (o : Option ℕ) →
+          elapsed_refusal ms ≡ o →
+          (ended : Bool) →
+          (ticked_by m ms).expired ≡ ended →
+          Alone m (elapsed ms) t
+      by (Some n) refused ended is = absurd (nothing-there t (rw refused at e))
+      by None accepted true is = absurd (nothing-there t (rw (accepted, is) at e))
+      by None accepted false is = (rw accepted (cc), accepted)
+
+  clock-alone : (value : ℕ) → clocked_by m value ≡ Some t → Alone m (clock value) t
+  unfolding clocked_by after_clock
+  clock-alone value e = by (clock_refusal value) refl
+    where
+      by : (o : Option ℕ) → clock_refusal value ≡ o → Alone m (clock value) t
+      by (Some n) refused = absurd (nothing-there t (rw refused at e))
+      by None accepted = (cc, accepted)
+
+  alone : (c : Call) → time_by m c ≡ Some t → Alone m c t
+  unfolding after_power_up
+  alone (settings s) e = absurd (nothing-there t e)
+  alone (completion c) e = absurd (nothing-there t e)
+  alone (elapsed ms) e = elapsed-alone ms e
+  alone (clock value) e = clock-alone value e
+  alone power_up e = (cc, refl)
+  alone (page n) e = absurd (nothing-there t e)
+  alone (settings_back n) e = absurd (nothing-there t e)
+  alone (below_a w) e = absurd (nothing-there t e)
+
+pub time-alone : TimeAlone
+time-alone m c t e = alone m t c e
