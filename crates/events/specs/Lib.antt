@@ -3,3 +3,4 @@ pub mod Blocks
 pub mod Explain
 pub mod Claims
 pub mod Example
+pub mod Stretch
