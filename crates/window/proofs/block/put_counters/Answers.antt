@@ -12,15 +12,12 @@ unfolding buckets fields
 loop-b-init c = search rules
 
 pub loop-b-preserved : goal.loop-b-preserved
-loop-b-preserved c = (
-  search rules,
-  search rules,
-  buckets-more c.args.counters _ _ _ c.loop-b.b (search rules) (search rules)
-      c.loop-b.invariant.2
-      c.put_bucket.ensures,
+loop-b-preserved c = (buckets-more c.args.counters _ _ _ c.loop-b.b (search rules) (search rules)
+      c.loop-b.invariant
+      c.put_bucket.ensures
 )
 
 pub returns : goal.returns
 returns c =
     let e : c.loop-b.b ≡ 4 = omega arith in
-    rw e at c.loop-b.invariant.2
+    rw e at c.loop-b.invariant

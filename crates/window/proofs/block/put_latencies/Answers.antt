@@ -8,13 +8,10 @@ use Rattle.window.proofs.block.put_latencies.Goals as goal
 
 pub loop-n-preserved : goal.loop-n-preserved
 loop-n-preserved c =
-    let p : c.latency_place-at.result ≡ 160 + 2 * (12 - c.loop-n.n) = omega (arith, c.latency_place-at.ensures) in (
-      search rules,
-      search rules,
-      downward-more 2 c.args.latencies _ _ _ c.loop-n.n _ _ _ _ c.loop-n-test.true p (omega arith) (omega arith) (omega arith)
-          c.loop-n.invariant.2
-          c.put.ensures,
+    let p : c.latency_place-at.result ≡ 160 + 2 * (12 - c.loop-n.n) = omega (arith, c.latency_place-at.ensures) in (downward-more 2 c.args.latencies _ _ _ c.loop-n.n _ _ _ _ (search rules) p (omega arith) (omega arith) (omega arith)
+          c.loop-n.invariant
+          (rw c.from.ensures at c.put.ensures)
     )
 
 pub returns : goal.returns
-returns c = downward-end 2 _ _ _ _ _ (search rules) c.loop-n.invariant.2
+returns c = downward-end 2 _ _ _ _ _ (search rules) c.loop-n.invariant

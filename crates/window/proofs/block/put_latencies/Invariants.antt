@@ -8,9 +8,5 @@ use Rattle.window.proofs.block.put_latencies.Given as goal
 
 abbrev pub invariant-loop-n : goal.invariant-loop-n
 invariant-loop-n l =
-    (l.n ≤ 12) × (length l.block ≡ length l.initial.block) ×
     (sets l.block (160 + 2 * (12 - l.n)) (column 2 (downward l.latencies l.n)) ≡
     sets l.initial.block 160 (column 2 (downward l.latencies 12)))
-
-abbrev pub decreases-loop-n : goal.decreases-loop-n
-decreases-loop-n l = l.n

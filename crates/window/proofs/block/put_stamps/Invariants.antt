@@ -8,8 +8,4 @@ use Rattle.window.proofs.block.put_stamps.Given as goal
 
 abbrev pub invariant-loop-n : goal.invariant-loop-n
 invariant-loop-n l =
-    (l.n ≤ 12) × (length l.block ≡ length l.initial.block) ×
     (sets l.block (64 + 8 * (12 - l.n)) (column 8 (downward l.stamps l.n)) ≡ sets l.initial.block 64 (column 8 (downward l.stamps 12)))
-
-abbrev pub decreases-loop-n : goal.decreases-loop-n
-decreases-loop-n l = l.n
