@@ -1,5 +1,5 @@
 // The block of a window on log page C3h: 186 bytes, the same for either window.
-ghost use Rattle.std.specs.Prelude.{cond, ◌≡◌, [], ◌∷◌, ◌<◌, ◌≤◌, eqb, length};
+ghost use Rattle.std.specs.Prelude.{ℕ, cond, ◌≡◌, ◌+◌, ◌-◌, ◌*◌, [], ◌∷◌, ◌<◌, ◌≤◌, eqb, length};
 ghost use Rattle.std.proofs.lemmas.List.Edits.{sets};
 ghost use Rattle.window.specs.Block.{stamp_place, latency_place, buckets, downward, column, bits, block_bytes};
 
@@ -61,23 +61,17 @@ fn put_counters(block: &mut [u8], counters: [u32; 12])
     }
 }
 
-fn put_stamps(block: &mut [u8], stamps: [u64; 12])
-    requires { 160 ≤ length block.old }
-    ensures { block.new ≡ sets block.old 64 (column 8 (downward stamps 12)) }
+// The values of the twelve counters: each of this width, and at its place.
+fn put_each<P: Fn(usize) -> usize>(block: &mut [u8], place: P, width: usize, values: [u64; 12])
+    ghost start: { ℕ }
+    requires callable { (n : ℕ) → n < 12 → P.pre place n }
+    requires downward { (n at : ℕ) → n < 12 → P.post place n at → at ≡ start + width * (11 - n) }
+    requires room { start + width * 12 ≤ length block.old }
+    ensures { block.new ≡ sets block.old start (column width (downward values 12)) }
 {
     for n in (0..12).rev() {
-        let at = stamp_place(n);
-        endian::put(&mut block[at..at + STAMP], stamps[n]);
-    }
-}
-
-fn put_latencies(block: &mut [u8], latencies: [u16; 12])
-    requires { 184 ≤ length block.old }
-    ensures { block.new ≡ sets block.old 160 (column 2 (downward latencies 12)) }
-{
-    for n in (0..12).rev() {
-        let at = latency_place(n);
-        endian::put(&mut block[at..at + LATENCY], u64::from(latencies[n]));
+        let at = place(n);
+        endian::put(&mut block[at..at + width], values[n]);
     }
 }
 
@@ -98,8 +92,8 @@ fn fill(block: &mut [u8], w: Window)
     ensures { block.new ≡ block_bytes w }
 {
     put_counters(block, w.counters);
-    put_stamps(block, w.stamps);
-    put_latencies(block, w.latencies);
+    put_each(block, stamp_place, STAMP, w.stamps);
+    put_each(block, latency_place, LATENCY, w.latencies.map(u64::from));
     endian::put(&mut block[184..186], unit_bits(w.units));
 }
 

@@ -3,7 +3,7 @@ use mathlib.Core.Bool.{Bool, true, false}
 use mathlib.Core.List.{List, [], ◌∷◌, ◌++◌, append_assoc}
 use mathlib.Core.Path.{◌≡◌, refl, sym, ◌∙◌, ap}
 use Prim.Native.Nat.{ℕ, zero, suc, ◌+◌, ◌*◌, ◌-◌, ◌%◌, ◌^◌, ◌<◌, ◌≤◌}
-use native.Mathlib.Nat.{not-suc-le-zero, one-le-pow, pow-succ'}
+use native.Mathlib.Nat.{not-suc-le-zero, one-le-pow, pow-succ', mul-suc, mul-le-mul_left}
 use native.Mathlib.Numerals.{add-one}
 use native.Mathlib.Omega.{arith}
 use borrow.Rule.Slice.PartMut.{put_mid}
@@ -46,6 +46,22 @@ buckets-more counters l cur part b h k e e' =
     rw (sixteen, add-one, column-append 4 (buckets counters b) (bucket_values counters b))
     (run_more l cur _ (column 4 (buckets counters b)) (column 4 (bucket_values counters b)) 0 (16 * b) (omega arith) e
     (part-run cur part (column 4 (bucket_values counters b)) (16 * b) 16 (omega arith) one e'))
+
+-- the place of the last of n counters, and the end of its value
+pub lower-place :
+    (start width n at : ℕ) →
+    0 < n →
+    n ≤ 12 →
+    at ≡ start + width * (11 - (n - 1)) →
+    let here = start + width * (12 - n) in
+    (at ≡ here) × (start + width * (12 - (n - 1)) ≡ here + width) × (at + width ≤ start + width * 12)
+lower-place start width n at h k e =
+    let place : 11 - (n - 1) ≡ 12 - n = omega arith in
+    let next : 12 - (n - 1) ≡ suc (12 - n) = omega arith in
+    let last : width * (12 - n) + width ≤ width * 12 =
+    omega (arith, mul-le-mul_left {m = suc (12 - n)} {n = 12} width (omega arith), mul-suc width (12 - n))
+    in
+    rw (e, place, next) (refl, omega (arith, mul-suc width (12 - n)), omega arith)
 
 -- values of one width, the last counter's first: the last of those that are left, and none left
 module _ (width : ℕ) (values : List ℕ) where
