@@ -4,10 +4,9 @@ ghost use Rattle.endian.specs.Loads.{number, part};
 ghost use Rattle.window.specs.Block.{flags, counter_place, stamp_place, latency_place};
 ghost use Rattle.window.specs.BlockReader.{window_in, counter_fits, window_fits, block_keeps, block_fits};
 
-use std::array;
-
 use crate::block;
 use crate::fields::{UNSET, Window};
+use std::array;
 
 // A stamp that is set is a clock, below 2^48.
 pub const CLOCK_END: u64 = 281_474_976_710_656;
@@ -33,30 +32,6 @@ fn field(block: &[u8], at: usize, width: usize) -> u64
     endian::load(&block[at..at + width])
 }
 
-fn counter_at(block: &[u8], n: usize) -> u32
-    requires block { length block.now ≡ 186 }
-    requires counter { n < 12 }
-    ensures { result ≡ number (part (counter_place n) 4 block.now) }
-{
-    field(block, counter_place(n), block::COUNTER) as u32
-}
-
-fn stamp_at(block: &[u8], n: usize) -> u64
-    requires block { length block.now ≡ 186 }
-    requires counter { n < 12 }
-    ensures { result ≡ number (part (stamp_place n) 8 block.now) }
-{
-    field(block, block::stamp_place(n), block::STAMP)
-}
-
-fn latency_at(block: &[u8], n: usize) -> u16
-    requires block { length block.now ≡ 186 }
-    requires counter { n < 12 }
-    ensures { result ≡ number (part (latency_place n) 2 block.now) }
-{
-    field(block, block::latency_place(n), block::LATENCY) as u16
-}
-
 // The stamp units of a mask: bit n for counter n.
 fn units_in(mask: u64) -> [bool; 12]
     ensures { result ≡ flags 12 mask }
@@ -70,14 +45,15 @@ pub fn read_block(block: &[u8]) -> Window
     ensures { result ≡ window_in block.now }
 {
     Window::of(
-        array::from_fn(|n| counter_at(block, n)),
-        array::from_fn(|n| stamp_at(block, n)),
-        array::from_fn(|n| latency_at(block, n)),
+        array::from_fn(|n| field(block, counter_place(n), block::COUNTER) as u32),
+        array::from_fn(|n| field(block, block::stamp_place(n), block::STAMP)),
+        array::from_fn(|n| field(block, block::latency_place(n), block::LATENCY) as u16),
         units_in(field(block, 184, 2)),
     )
 }
 
 // Without a branch: which stamps are set differs from page to page.
+#[tactic(auto, unfolding(crate::specs::BlockReader::counter_fits))]
 fn counter_fits(counter: u32, stamp: u64, latency: u16, unit: bool) -> bool
     ensures { result ≡ counter_fits counter stamp latency unit }
 {
@@ -108,6 +84,7 @@ pub fn keeps(block: &[u8], w: Window) -> bool
 }
 
 // Whether bytes, however many, are a block that keeps the rules.
+#[tactic(auto, unfolding(crate::specs::BlockReader::block_fits))]
 pub fn block_fits(block: &[u8]) -> bool
     ensures { result ≡ block_fits block.now }
 {

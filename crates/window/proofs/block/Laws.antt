@@ -7,8 +7,8 @@ use native.Mathlib.Nat.{not-suc-le-zero, one-le-pow, pow-succ', mul-suc, mul-le-
 use native.Mathlib.Numerals.{add-one}
 use native.Mathlib.Omega.{arith}
 use borrow.Rule.Slice.PartMut.{put_mid}
-use lib.ListN.{length, get_or, take, drop, length-append, length-take, length-drop}
-use lib.Seq.{sets, drop-cons, length-sets}
+use lib.ListN.{length, get_or, take, drop, length-append, length-take}
+use lib.Seq.{sets, length-sets}
 use Rattle.endian.specs.Stores.{low_first, fields}
 use Rattle.endian.proofs.Runs.{length-low, part-run, put-part, run_more, run-left, sets-whole}
 use Rattle.window.specs.Block.{flag, bucket_values, buckets, downward, column, bits, block_bytes}

@@ -1,12 +1,11 @@
 -- Laws of the block's reader: the flags of a mask, and tests asked one by one.
-use mathlib.Core.Bool.{Bool, true, false, not, cond, ◌&&◌, ◌||◌}
+use mathlib.Core.Bool.{Bool, false, not, ◌&&◌}
 use mathlib.Core.List.{List}
 use mathlib.Core.Path.{◌≡◌, refl, ◌∙◌}
 use Prim.Native.Nat.{ℕ, zero, suc, ◌+◌, ◌-◌, ◌/◌, ◌%◌, ◌^◌, ◌<◌, ◌≤◌}
 use native.Mathlib.Nat.{div-one, div-div-eq-div-mul, pow-suc}
 use native.Mathlib.Numerals.{add-one}
 use native.Mathlib.Omega.{arith}
-use borrow.Author.Tests.{eqb-true, le-ltb}
 use lib.Dec.{eqb, ltb}
 use lib.ListN.{get_or}
 use Rattle.endian.specs.Bytes.{any_set}
@@ -14,7 +13,7 @@ use Rattle.endian.specs.Loads.{number, part, values_at}
 use Rattle.window.specs.Tests.{passes}
 use Rattle.window.specs.Block.{flags, counter_place, stamp_place, latency_place}
 use Rattle.window.specs.BlockReader.{window_in, counter_fits, window_fits, block_keeps}
-use Rattle.window.specs.Fields.{unset, window_of, from, each}
+use Rattle.window.specs.Fields.{window_of, from, each}
 use Rattle.window.specs.declared.fields.Window.{Window}
 
 -- the field of each counter in a block, by its place and width
@@ -62,29 +61,6 @@ module _ (test : ℕ → Bool) where
   tests-end so_far answer n h k =
       let p : 12 - n ≡ 0 = omega arith in
       rw p at k
-
--- a counter: an unset stamp is not below 2^48
-pub counter-kept :
-    (counter stamp latency : ℕ) (unit : Bool) →
-    (ltb stamp 281474976710656 || (((eqb stamp unset && eqb counter 0) && eqb latency 0) && not unit)) ≡
-    counter_fits counter stamp latency unit
-unfolding counter_fits
-counter-kept counter stamp latency unit = by (eqb stamp unset) refl
-  where
-    shown : Bool
-    shown = (eqb counter 0 && eqb latency 0) && not unit
-
-    or-false : (b : Bool) → (b || false) ≡ b
-    or-false true = refl
-    or-false false = refl
-
-    by :
-        (t : Bool) →
-        eqb stamp unset ≡ t →
-        (ltb stamp 281474976710656 || (((t && eqb counter 0) && eqb latency 0) && not unit)) ≡
-        cond t shown (ltb stamp 281474976710656)
-    by true e = rw (le-ltb stamp 281474976710656 (omega (arith, eqb-true stamp unset e)))
-    by false e = or-false (ltb stamp 281474976710656)
 
 -- the arrays that were read by their places are those of the window
 pub block_read :

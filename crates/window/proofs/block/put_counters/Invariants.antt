@@ -1,7 +1,5 @@
 -- `put_counters`: a bucket after the other.
 use mathlib.Core.Path.{◌≡◌}
-use Prim.Native.Nat.{◌≤◌}
-use lib.ListN.{length}
 use lib.Seq.{sets}
 use Rattle.window.specs.Block.{buckets, column}
 use Rattle.window.proofs.block.put_counters.Given as goal

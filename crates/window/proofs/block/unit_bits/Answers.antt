@@ -2,7 +2,6 @@
 use mathlib.Core.Path.{refl}
 use native.Mathlib.Omega.{arith}
 use borrow.Author.Rules.{rules}
-use lib.Seq.{take_all}
 use Rattle.window.specs.Block.{bits}
 use Rattle.window.proofs.block.Laws.{bit-added}
 use Rattle.window.proofs.block.unit_bits.Goals as goal

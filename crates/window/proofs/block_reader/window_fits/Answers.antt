@@ -11,7 +11,7 @@ loop-n-init c = (refl)
 
 pub loop-n-preserved : goal.loop-n-preserved
 loop-n-preserved c = (tests-more (tested c.args.w) _ _ c.loop-n.n _ (search rules) c.counter_fits-fits.ensures c.loop-n.invariant
-)
+    )
 
 pub returns : goal.returns
 returns c = tests-end (tested c.args.w) _ _ c.loop-n.n (search rules) c.loop-n.invariant
