@@ -61,7 +61,7 @@ fn put_counters(block: &mut [u8], counters: [u32; 12])
     }
 }
 
-// The values of the twelve counters: each of this width, and at its place.
+// The values of the twelve counters, each of this width and at its place: from `start` on, counter 11 first.
 fn put_each<P: Fn(usize) -> usize>(block: &mut [u8], place: P, width: usize, values: [u64; 12])
     ghost start: { ℕ }
     requires callable { (n : ℕ) → n < 12 → P.pre place n }
