@@ -1,15 +1,15 @@
 -- Laws of the number that bytes make.
 use mathlib.Core.Path.{◌≡◌, refl, ap, ◌∙◌}
 use mathlib.Core.Bool.{Bool, true, false, not, ◌||◌, true≢false}
+use Rattle.std.proofs.Math.Bool.{or-false}
 use mathlib.Core.List.{List, [], ◌∷◌, ◌++◌}
-use Prim.Native.Nat.{ℕ, zero, suc, ◌+◌, ◌-◌, ◌*◌, ◌^◌, ◌<◌, ◌≤◌, min}
-use native.Mathlib.Nat.{not-suc-le-zero, pow-succ', one-le-pow, pow-le-pow_right, lt_of_lt_of_le}
-use native.Mathlib.Numerals.{sub-one}
+use Prim.Native.Nat.{ℕ, zero, suc, ◌+◌, ◌-◌, ◌*◌, ◌^◌, ◌<◌, ◌≤◌}
+use native.Mathlib.Nat.{pow-succ', one-le-pow}
 use native.Mathlib.Omega.{arith}
-use borrow.Author.Tests.{eq-eqb, eqb-true, eqb-false, ltb-true, ltb-false}
-use lib.Dec.{eqb, ltb}
-use lib.ListN.{length, get_or, take, drop, drop_of_length-le, length-take}
-use lib.Seq.{take_all, take-nil, drop-cons, get_or-drop}
+use borrow.Author.Tests.{eq-eqb, eqb-true, eqb-false}
+use lib.Dec.{eqb}
+use lib.ListN.{get_or, take, drop, length-take}
+use lib.Seq.{take_all, get_or-drop}
 use Rattle.endian.specs.Bytes.{any_set}
 use Rattle.endian.specs.Loads.{number, part}
 
@@ -34,36 +34,6 @@ unfolding number
 below l bytes zero = omega arith
 below [] bytes (suc n) = one-le-pow (suc n) 256 (omega arith)
 below (b ∷ bs) bytes (suc n) = rw (pow-succ' 256 n) (omega (arith, bytes 0, below bs (λ k. bytes (suc k)) n))
-
--- past the bytes there is nothing
-pub none_left : (s : List ℕ) (i : ℕ) → i ≡ min (length s) 8 → 0 ≡ number (take (8 - i) (drop i s))
-unfolding number
-none_left s i e = by (ltb (length s) 8) refl
-  where
-    by : (t : Bool) → ltb (length s) 8 ≡ t → 0 ≡ number (take (8 - i) (drop i s))
-    by true h = rw (drop_of_length-le s {i = i} (omega (arith, ltb-true (length s) 8 h)), take-nil)
-    by false h =
-        let full : 8 - i ≡ 0 = omega (arith, ltb-false (length s) 8 h) in
-        rw full
-
--- one byte more, below those loaded
-pub one_lower :
-    (s : List ℕ) (i : ℕ) →
-    0 < i →
-    i ≤ 8 →
-    i ≤ length s →
-    get_or s (i - 1) 0 + 256 * number (take (8 - i) (drop i s)) ≡ number (take (8 - (i - 1)) (drop (i - 1) s))
-unfolding number
-one_lower s zero p h l = absurd (not-suc-le-zero p)
-one_lower s (suc i) p h l =
-    let more : 8 - i ≡ suc (8 - suc i) = omega arith in
-    rw (sub-one (suc i), more, drop-cons s i 0 l)
-
--- eight bytes fit
-pub fits : (s : List ℕ) (i : ℕ) → ((k : ℕ) → get_or s k 0 < 256) → number (take (8 - i) (drop i s)) < 18446744073709551616
-fits s i bytes =
-    lt_of_lt_of_le (below (drop i s) (λ k. rw (get_or-drop i s k 0) (bytes (i + k))) (8 - i))
-    (pow-le-pow_right {n = 256} (omega arith) {i = 8 - i} {j = 8} (omega arith))
 
 -- w bytes from a place on: what a load takes of them, and that it fits as many bytes
 module _ (s : List ℕ) (at place w v : ℕ) (p : at ≡ place) (h : w ≤ 8)
@@ -100,6 +70,11 @@ set-append (x ∷ a) b = rw (set-append a b) (by (eqb x 0))
     by : (t : Bool) → (not t || (any_set a || any_set b)) ≡ ((not t || any_set a) || any_set b)
     by true = refl
     by false = refl
+
+-- one byte more, at the end
+pub set-push : (bs : List ℕ) (b : ℕ) → any_set (bs ++ b ∷ []) ≡ (any_set bs || not (eqb b 0))
+unfolding any_set
+set-push bs b = rw (set-append bs (b ∷ []), or-false)
 
 -- two lists of bytes are clear where both numbers are zero
 pub both-clear : (a b : List ℕ) → number a ≡ 0 → eqb (number b) 0 ≡ not (any_set (a ++ b))

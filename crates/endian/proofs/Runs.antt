@@ -1,7 +1,7 @@
 -- Laws of runs of stores, and of the lengths of what is stored.
 use mathlib.Core.List.{List, [], ◌∷◌, ◌++◌, append_assoc, append-nil}
 use mathlib.Core.Path.{◌≡◌, refl, sym, ◌∙◌, ap}
-use Prim.Native.Nat.{ℕ, zero, suc, ◌+◌, ◌-◌, ◌≤◌, ◌/◌}
+use Prim.Native.Nat.{ℕ, zero, suc, ◌+◌, ◌-◌, ◌≤◌, ◌/◌, min}
 use native.Mathlib.Omega.{arith}
 use borrow.Rule.Slice.PartMut.{put_mid}
 use lib.ListN.{length, take, drop, set, length-append, length-drop, replicate}
@@ -21,6 +21,25 @@ sets-append l i (x ∷ a) b =
 pub sets-past : (l run : List ℕ) (i : ℕ) → length l ≤ i → sets l i run ≡ l
 sets-past l [] i h = refl
 sets-past l (x ∷ run) i h = rw (set_out l i x h) (sets-past l run (suc i) (omega arith))
+
+-- a run that starts later leaves the first element
+pub sets-later : (x : ℕ) (l run : List ℕ) (i : ℕ) → sets (x ∷ l) (suc i) run ≡ x ∷ sets l i run
+sets-later x l [] i = refl
+sets-later x l (y ∷ run) i = sets-later x (set l i y) run (suc i)
+
+-- what has no room is left out
+pub sets-room :
+    (l run : List ℕ) →
+    sets l 0 run ≡ take (min (length l) (length run)) run ++ drop (min (length l) (length run)) l
+sets-room [] run =
+    let e : min 0 (length run) ≡ 0 = omega arith in
+    rw e (sets-past [] run 0 (omega arith))
+sets-room (x ∷ l) [] =
+    let e : min (suc (length l)) 0 ≡ 0 = omega arith in
+    rw e
+sets-room (x ∷ l) (y ∷ run) =
+    let e : min (suc (length l)) (suc (length run)) ≡ suc (min (length l) (length run)) = omega arith in
+    rw e (sets-later y l run 0 ∙ ap (λ r. y ∷ r) (sets-room l run))
 
 -- a part that is lent and comes back filled is a run of stores
 pub part-run :

@@ -14,18 +14,12 @@ pub use stores::{copy, put, put_fields};
 pub fn word(low: u8, high: u8) -> u16
     ensures { result ≡ word low high }
 {
-    low as u16 + 256 * (high as u16)
+    u16::from_le_bytes([low, high])
 }
 
 // Whether a byte of the slice is not zero. All are looked at, so that many are compared at once.
 pub fn any_set(s: &[u8]) -> bool
     ensures { result ≡ any_set s.now }
 {
-    let mut set = false;
-    let mut i = 0;
-    while i < s.len() {
-        set = set | (s[i] != 0);
-        i += 1;
-    }
-    set
+    s.iter().fold(false, |set, b| set | (*b != 0))
 }

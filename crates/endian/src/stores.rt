@@ -1,5 +1,5 @@
 // Numbers stored as bytes, the lowest first. No place is asked for: a caller lends the part to be filled.
-ghost use Rattle.std.specs.Prelude.{◌≡◌, ◌+◌, ◌≤◌, min, length};
+ghost use Rattle.std.specs.Prelude.{◌≡◌, ◌+◌, min, length};
 ghost use Rattle.std.proofs.lemmas.List.Edits.{sets};
 ghost use Rattle.endian.specs.Stores.{low_first, fields};
 
@@ -7,46 +7,26 @@ ghost use Rattle.endian.specs.Stores.{low_first, fields};
 pub fn put(s: &mut [u8], v: u64)
     ensures { s.new ≡ low_first (length s.old) v }
 {
-    let mut x = v;
-    let mut i = 0;
-    while i < s.len() {
-        s[i] = (x % 256) as u8;
-        x = x / 256;
-        i += 1;
-    }
-}
-
-// The lower of two numbers.
-pub(crate) fn lower(a: usize, b: usize) -> usize
-    ensures { result ≡ min a b }
-{
-    if a < b { a } else { b }
+    s.fill(0);
+    copy(s, &v.to_le_bytes());
 }
 
 // Where a field of this width ends, from a place in a slice of so many bytes on: at the slice's end at the latest.
 pub(crate) fn end_of(place: usize, width: usize, len: usize) -> usize
-    requires { place ≤ len }
     ensures { result ≡ min (place + width) len }
 {
-    if width < len - place {
-        place + width
-    } else {
-        len
-    }
+    place.saturating_add(width).min(len)
 }
 
 // Stores fields one after the other from the slice's start on, as far as they have room.
 pub fn put_fields(s: &mut [u8], widths: &[usize], values: &[u64])
     ensures { s.new ≡ sets s.old 0 (fields widths.now values.now) }
 {
-    let n = lower(widths.len(), values.len());
     let mut place = 0;
-    let mut i = 0;
-    while i < n {
-        let end = end_of(place, widths[i], s.len());
-        put(&mut s[place..end], values[i]);
+    for (width, value) in widths.iter().zip(values) {
+        let end = end_of(place, *width, s.len());
+        put(&mut s[place..end], *value);
         place = end;
-        i += 1;
     }
 }
 
@@ -54,10 +34,6 @@ pub fn put_fields(s: &mut [u8], widths: &[usize], values: &[u64])
 pub fn copy(s: &mut [u8], from: &[u8])
     ensures { s.new ≡ sets s.old 0 from.now }
 {
-    let n = lower(s.len(), from.len());
-    let mut i = 0;
-    while i < n {
-        s[i] = from[i];
-        i += 1;
-    }
+    let n = s.len().min(from.len());
+    s[..n].copy_from_slice(&from[..n]);
 }

@@ -1,7 +1,10 @@
 -- Laws of lists and of tests, which know nothing of the page.
 use mathlib.Core.Bool.{Bool, true, false, false≢true}
 use mathlib.Core.List.{List, [], ◌∷◌}
-use mathlib.Core.Path.{◌≡◌, refl, ap, ◌∙◌}
+use mathlib.Core.Path.{◌≡◌, refl, sym, ap, subst, ◌∙◌}
+use denote.Param.Members.{Mut, Called}
+use native.Mathlib.Decide.{dec_lt}
+use Rattle.std.specs.Array.{IsFromFnResultFrom, IsFromFnResult}
 use Prim.Native.Nat.{ℕ, zero, suc, ◌+◌, ◌*◌, ◌/◌, ◌%◌, ◌^◌, ◌<◌, ◌≤◌}
 use native.Mathlib.Nat.{pow-succ'}
 use native.Mathlib.Omega.{arith}
@@ -27,6 +30,52 @@ entries d (x ∷ l) = ap (λ t. x ∷ t) (from-later x d l 0 (length l) ∙ entr
 
 pub twelve : {A : Type 0} (d : A) (l : List A) → length l ≡ 12 → each (λ k. get_or l k d) ≡ l
 twelve d l h = rw h at (entries d l)
+
+-- a list of twelve, by what stands at each place
+from-same :
+    {A : Type 0} (f g : ℕ → A) (i n : ℕ) →
+    ((k : ℕ) → i ≤ k → k < i + n → f k ≡ g k) →
+    from i n f ≡ from i n g
+unfolding from
+from-same f g i zero h = refl
+from-same f g i (suc n) h =
+    rw (h i (omega arith) (omega arith)) (ap (λ t. g i ∷ t) (from-same f g (suc i) n (λ k l m. h k (omega arith) (omega arith))))
+
+pub each-at :
+    {A : Type 0} (f : ℕ → A) (l : List A) (d : A) →
+    length l ≡ 12 →
+    ((k : ℕ) → k < 12 → get_or l k d ≡ f k) →
+    l ≡ each f
+each-at f l d e h = sym (twelve d l e) ∙ from-same (λ k. get_or l k d) f 0 12 (λ k a b. h k (omega arith))
+
+-- an array that was made by index, of calls that leave the closure as it was
+module _ {F A : Type 0} (g : Mut F (ℕ × Unit {0}) A) (f : F) (h : ℕ → A) (d : A)
+    (call : (k : ℕ) (x : A) (q : F) → Called g f (k, tt) x q → (x ≡ h k) × (q ≡ f)) where
+  made-from :
+      (l : List A) (i n : ℕ) →
+      IsFromFnResultFrom g f l i n →
+      (k : ℕ) →
+      i ≤ k →
+      k < i + n →
+      get_or l k d ≡ h k
+  made-from l i zero m k a b = absurd (omega arith)
+  made-from l i (suc n) m k a b =
+      let made = call i m.1 m.0 m.3 in
+      let next : i + 1 ≡ suc i = omega arith in
+      let rest : IsFromFnResultFrom g f l (i + 1) n = subst (λ q. IsFromFnResultFrom g q l (i + 1) n) made.1 m.4 in
+      by (dec_lt i k) (made-from l (i + 1) n rest k)
+    where
+      by :
+          Dec (i < k) →
+          (i + 1 ≤ k → k < i + 1 + n → get_or l k d ≡ h k) →
+          get_or l k d ≡ h k
+      by (yes p) later = later (omega arith) (omega arith)
+      by (no p) later =
+          let e : k ≡ i = omega arith in
+          rw e (m.2.1 d ∙ (call i m.1 m.0 m.3).0)
+
+  pub made-each : (l : List A) → IsFromFnResult g f l 12 → l ≡ each h
+  made-each l m = each-at h l d m.long (λ k b. made-from l 0 12 m.each k (omega arith) (omega arith))
 
 -- tests that all pass
 passed-before : (so_far : Bool) (tests : List Bool) → passes so_far tests ≡ true → so_far ≡ true

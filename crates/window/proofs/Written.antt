@@ -25,7 +25,7 @@ module _ (w : Window) (x : FitsWindow w) where
   bucket-fit b later = lit< tt ▸ x.counters _ ▸ x.counters _ ▸ x.counters _ ▸ later
 
   units-fit : bits w.units < 65536
-  units-fit = omega (arith, bits_fit w.units 0 (omega (arith, x.twelve_units)))
+  units-fit = omega (arith, bits_fit w.units (omega (arith, x.twelve_units)))
 
   block_fit : Fit block_widths (block_values w)
   unfolding buckets downward
@@ -60,6 +60,6 @@ buckets-clear w = (refl, refl, refl, refl)
 pub block-kept : (w : Window) → FitsWindow w → window_fits w ≡ true → block_keeps (block_bytes w) (window_in (block_bytes w)) ≡ true
 unfolding block_keeps buckets downward
 block-kept w y f =
-    let m : of_twelve (bits w.units) ≡ true = lt-ltb _ _ (bits_fit w.units 0 (omega (arith, y.twelve_units))) in
+    let m : of_twelve (bits w.units) ≡ true = lt-ltb _ _ (bits_fit w.units (omega (arith, y.twelve_units))) in
     let z = buckets-clear w in
     rw (z.0, z.1, z.2, z.3, block-values w y, m, window-back w y, f)

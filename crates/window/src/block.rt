@@ -1,12 +1,12 @@
 // The block of a window on log page C3h: 186 bytes, the same for either window.
-ghost use Rattle.std.specs.Prelude.{cond, ◌≡◌, [], ◌∷◌, ◌<◌, ◌≤◌, eqb, length};
+ghost use Rattle.std.specs.Prelude.{ℕ, cond, ◌≡◌, ◌+◌, ◌-◌, ◌*◌, [], ◌∷◌, ◌<◌, ◌≤◌, eqb, length};
 ghost use Rattle.std.proofs.lemmas.List.Edits.{sets};
 ghost use Rattle.window.specs.Block.{stamp_place, latency_place, buckets, downward, column, bits, block_bytes};
 
 use crate::fields::Window;
 
 // Where each counter has its latency stamp in the block, by the counter's number.
-pub(crate) const STAMPS_AT: [usize; 12] = [152, 144, 136, 128, 120, 112, 104, 96, 88, 80, 72, 64];
+const STAMPS_AT: [usize; 12] = [152, 144, 136, 128, 120, 112, 104, 96, 88, 80, 72, 64];
 
 // The bytes of a block.
 pub(crate) const LENGTH: usize = 186;
@@ -21,7 +21,7 @@ pub(crate) const LATENCY: usize = 2;
 // A bucket's fields: reserved, Deallocate, Write, Read.
 const BUCKET_WIDTHS: [usize; 4] = [COUNTER; 4];
 
-fn stamp_place(n: usize) -> usize
+pub(crate) fn stamp_place(n: usize) -> usize
     requires { n < 12 }
     ensures { result ≡ stamp_place n }
 {
@@ -41,7 +41,7 @@ fn put_bucket(bucket: &mut [u8], deallocate: u32, write: u32, read: u32)
     requires { length bucket.old ≡ 16 }
     ensures { bucket.new ≡ column 4 (0 ∷ deallocate ∷ write ∷ read ∷ []) }
 {
-    let values = [0, deallocate as u64, write as u64, read as u64];
+    let values = [0, u64::from(deallocate), u64::from(write), u64::from(read)];
     endian::put_fields(bucket, &BUCKET_WIDTHS, &values);
 }
 
@@ -49,8 +49,7 @@ fn put_counters(block: &mut [u8], counters: [u32; 12])
     requires { 64 ≤ length block.old }
     ensures { block.new ≡ sets block.old 0 (column 4 (buckets counters 4)) }
 {
-    let mut b = 0;
-    while b < 4 {
+    for b in 0..4 {
         let n = 3 * b;
         let at = 16 * b;
         put_bucket(
@@ -59,31 +58,20 @@ fn put_counters(block: &mut [u8], counters: [u32; 12])
             counters[n + 1],
             counters[n],
         );
-        b += 1;
     }
 }
 
-fn put_stamps(block: &mut [u8], stamps: [u64; 12])
-    requires { 160 ≤ length block.old }
-    ensures { block.new ≡ sets block.old 64 (column 8 (downward stamps 12)) }
+// The values of the twelve counters, each of this width and at its place: from `start` on, counter 11 first.
+fn put_each<P: Fn(usize) -> usize>(block: &mut [u8], place: P, width: usize, values: [u64; 12])
+    ghost start: { ℕ }
+    requires callable { (n : ℕ) → n < 12 → P.pre place n }
+    requires downward { (n at : ℕ) → n < 12 → P.post place n at → at ≡ start + width * (11 - n) }
+    requires room { start + width * 12 ≤ length block.old }
+    ensures { block.new ≡ sets block.old start (column width (downward values 12)) }
 {
-    let mut n = 12;
-    while 0 < n {
-        n -= 1;
-        let at = stamp_place(n);
-        endian::put(&mut block[at..at + STAMP], stamps[n]);
-    }
-}
-
-fn put_latencies(block: &mut [u8], latencies: [u16; 12])
-    requires { 184 ≤ length block.old }
-    ensures { block.new ≡ sets block.old 160 (column 2 (downward latencies 12)) }
-{
-    let mut n = 12;
-    while 0 < n {
-        n -= 1;
-        let at = latency_place(n);
-        endian::put(&mut block[at..at + LATENCY], latencies[n] as u64);
+    for n in (0..12).rev() {
+        let at = place(n);
+        endian::put(&mut block[at..at + width], values[n]);
     }
 }
 
@@ -91,13 +79,11 @@ fn put_latencies(block: &mut [u8], latencies: [u16; 12])
 fn unit_bits(units: [bool; 12]) -> u64
     ensures { result ≡ bits units }
 {
-    let mut r = 0;
-    let mut n = 12;
-    while 0 < n {
-        n -= 1;
-        r = 2 * r + units[n] as u64;
+    let mut mask = 0;
+    for (n, unit) in units.iter().enumerate() {
+        mask += u64::from(*unit) << n;
     }
-    r
+    mask
 }
 
 // Fills a block, whatever it held.
@@ -105,22 +91,17 @@ fn fill(block: &mut [u8], w: Window)
     requires { length block.old ≡ 186 }
     ensures { block.new ≡ block_bytes w }
 {
-    let counters = w.counters;
-    let stamps = w.stamps;
-    let latencies = w.latencies;
-    let units = w.units;
-    put_counters(block, counters);
-    put_stamps(block, stamps);
-    put_latencies(block, latencies);
-    endian::put(&mut block[184..186], unit_bits(units));
+    put_counters(block, w.counters);
+    put_each(block, stamp_place, STAMP, w.stamps);
+    put_each(block, latency_place, LATENCY, w.latencies.map(u64::from));
+    endian::put(&mut block[184..186], unit_bits(w.units));
 }
 
 // Writes a window into bytes, however many: all of them where they are a block's, else none.
 pub fn write_block(block: &mut [u8], w: Window)
     ensures { block.new ≡ cond (eqb (length block.old) 186) (block_bytes w) block.old }
 {
-    if block.len() != LENGTH {
-        return;
+    if block.len() == LENGTH {
+        fill(block, w);
     }
-    fill(block, w);
 }

@@ -36,6 +36,7 @@ impl Window {
     }
 
     // A window in which nothing was counted.
+    #[tactic(auto, unfolding(crate::specs::Fields::empty_window))]
     pub fn empty() -> Self
         ensures { result ≡ empty_window }
     {

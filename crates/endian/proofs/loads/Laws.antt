@@ -1,28 +1,58 @@
 -- Laws of loads: fields, one after the other.
 use mathlib.Core.List.{List, [], ◌∷◌}
-use mathlib.Core.Path.{◌≡◌, sym, ◌∙◌}
-use Prim.Native.Nat.{ℕ, zero, suc, ◌+◌, ◌-◌, ◌<◌, ◌≤◌, min}
+use mathlib.Core.Path.{◌≡◌, refl, sym, ap, ◌∙◌}
+use Prim.Native.Nat.{ℕ, zero, suc, ◌+◌, ◌-◌, ◌*◌, ◌<◌, ◌≤◌, min}
+use native.Mathlib.Nat.{pow-succ'}
 use native.Mathlib.Decide.{dec_lt}
 use native.Mathlib.Numerals.{add-one}
 use native.Mathlib.Omega.{arith}
-use lib.ListN.{length, set, take, drop, get_or, drop_of_length-le, length-take, length-drop}
-use lib.Seq.{sets, drop-cons, take_all, take-nil, take-take}
+use lib.ListN.{length, set, take, drop, get_or, drop_of_length-le, length-take, length-drop, replicate}
+use Rattle.std.proofs.lemmas.List.{take_min}
+use lib.Seq.{sets, length-sets, drop-cons, take_all, take-nil, take-take}
+use Rattle.std.specs.Int.{w64, byte_worth, sum_through, from_le_bytes}
 use Rattle.endian.specs.Loads.{number, part, values_at}
 use Rattle.endian.specs.Stores.{total}
-use Rattle.endian.proofs.Runs.{sets-past}
+use Rattle.endian.proofs.Runs.{sets-past, sets-later}
 
--- as many bytes of a list as it has
-take_within : (n : ℕ) (l : List ℕ) → take n l ≡ take (min n (length l)) l
-take_within n l = by (dec_lt n (length l))
-  where
-    by : Dec (n < length l) → take n l ≡ take (min n (length l)) l
-    by (yes h) =
-        let e : min n (length l) ≡ n = omega arith in
-        rw e
-    by (no h) =
-        let e : min n (length l) ≡ length l = omega arith in
-        take_all n l (omega arith) ∙ sym (rw e (take_all (length l) l (omega arith)))
+-- the number of so many bytes is what each is worth
+worth_more : (i b : ℕ) → 256 * byte_worth i b ≡ byte_worth (suc i) b
+worth_more zero b = omega arith
+worth_more (suc i) b = rw (pow-succ' 256 (suc i)) (omega arith)
 
+last-worth : (n : ℕ) (l : List ℕ) → number (take (suc n) l) ≡ number (take n l) + byte_worth n (get_or l n 0)
+unfolding number
+last-worth zero [] = refl
+last-worth zero (b ∷ bs) = omega arith
+last-worth (suc n) [] = omega arith
+last-worth (suc n) (b ∷ bs) = omega (arith, last-worth n bs, worth_more n (get_or bs n 0))
+
+sum-number : (n : ℕ) (l : List ℕ) → sum_through (λ i. byte_worth i (get_or l i 0)) n ≡ number (take (suc n) l)
+unfolding number
+sum-number zero l = omega (arith, last-worth zero l)
+sum-number (suc n) l = rw (sum-number n l) (sym (last-worth (suc n) l))
+
+-- bytes over zeros
+zero-number : (n : ℕ) → number (replicate n 0) ≡ 0
+unfolding number
+zero-number zero = refl
+zero-number (suc n) = omega (arith, zero-number n)
+
+filled-number : (n : ℕ) (s : List ℕ) → number (sets (replicate n 0) 0 s) ≡ number (take n s)
+unfolding number
+filled-number zero s = rw (sets-past [] s 0 (omega arith))
+filled-number (suc n) [] = zero-number (suc n)
+filled-number (suc n) (b ∷ s) = rw (sets-later b (replicate n 0) s 0, filled-number n s)
+
+pub number_loaded :
+    (s bytes : List ℕ) (v : ℕ) →
+    bytes ≡ sets (replicate 8 0) 0 s →
+    v ≡ from_le_bytes w64 bytes →
+    v ≡ number (take 8 s)
+number_loaded s bytes v e k =
+    let n : length bytes ≡ 8 = ap length e ∙ length-sets (replicate 8 0) 0 s in
+    k ∙ sum-number 7 bytes ∙ ap number (take_all 8 bytes (omega arith) ∙ e) ∙ filled-number 8 s
+
+-- what is taken of a list's first elements
 take_twice : (m n : ℕ) (l : List ℕ) → take m (take n l) ≡ take (min m n) l
 take_twice m n l = by (dec_lt n m)
   where
@@ -61,8 +91,8 @@ field-loaded s at w place end p q = by (dec_lt at (length s))
         let rest : List ℕ = drop at s in
         let n : end - at ≡ min w (length rest) = rw (length-drop at s) (room at w (length s) end h (rw here at q)) in
         rw (here, n)
-        (take_twice 8 (min w (length rest)) rest ∙ take_within (min 8 (min w (length rest))) rest ∙
-        rw (mins w (length rest)) (sym (take_within (min w 8) rest)))
+        (take_twice 8 (min w (length rest)) rest ∙ sym (take_min (min 8 (min w (length rest))) rest) ∙
+        rw (mins w (length rest)) (take_min (min w 8) rest))
 
 total-take :
     (widths : List ℕ) (i : ℕ) →

@@ -1,38 +1,51 @@
 -- Laws of stores: what is left to store, stored from here, gives the whole.
 use mathlib.Core.List.{List, [], ◌∷◌, ◌++◌, append_assoc}
 use mathlib.Core.Path.{◌≡◌, refl, sym, ◌∙◌, ap}
-use Prim.Native.Nat.{ℕ, zero, suc, ◌+◌, ◌-◌, ◌<◌, ◌≤◌, ◌/◌, ◌%◌, min}
+use Prim.Native.Nat.{ℕ, zero, suc, ◌+◌, ◌-◌, ◌<◌, ◌≤◌, ◌/◌, ◌%◌, ◌^◌, min}
 use native.Mathlib.Decide.{dec_lt}
-use native.Mathlib.Nat.{not-suc-le-zero}
+use native.Mathlib.Nat.{not-suc-le-zero, div-one, div-div-eq-div-mul, pow-suc, pow-succ'}
 use native.Mathlib.Numerals.{add-one}
 use native.Mathlib.Omega.{arith}
 use borrow.Rule.Slice.PartMut.{put_mid}
-use lib.ListN.{length, set, take, drop, get_or, drop_of_length-le, take-append-drop, length-take, length-drop}
+use lib.ListN.{length, take, drop, get_or, drop_of_length-le, take-append-drop, length-take, length-drop, replicate}
 use lib.Seq.{sets, drop-cons, length-sets}
 use Rattle.endian.specs.Stores.{low_first, fields}
-use Rattle.endian.proofs.Runs.{sets-append, sets-past, sets-whole, part-run, length-low}
+use Rattle.std.specs.Int.{w64, byte_at, bytes_low_first, to_le_bytes}
+use Rattle.endian.proofs.Runs.{sets-append, sets-past, sets-later, part-run, length-low, low_zeros}
 
--- a number, from its byte i on
-pub put-start : (s : List ℕ) (v : ℕ) → sets s 0 (low_first (length s - 0) v) ≡ low_first (length s) v
-put-start s v =
-    let p : length s - 0 ≡ length s = omega arith in
-    rw p (sets-whole s (low_first (length s) v) (length-low (length s) v))
-
-pub put-more :
-    (s goal : List ℕ) (n i x : ℕ) →
-    i < n →
-    sets s i (low_first (n - i) x) ≡ goal →
-    sets (set s i (x % 256)) (i + 1) (low_first (n - (i + 1)) (x / 256)) ≡ goal
+-- the bytes of a number, as the library lists them
+low_bytes : (i n v : ℕ) → bytes_low_first i n v ≡ low_first n (v / 256 ^ i)
 unfolding low_first
-put-more s goal n i x h e =
-    let p : n - i ≡ suc (n - suc i) = omega arith in
-    rw add-one (rw p at e)
+low_bytes i zero v = refl
+low_bytes i (suc n) v =
+    let later : v / 256 ^ suc i ≡ v / 256 ^ i / 256 = rw (div-div-eq-div-mul v (256 ^ i) 256, pow-suc 256 i) in
+    rw (low_bytes (suc i) n v, later) (ap (λ b. b ∷ low_first n (v / 256 ^ i / 256)) (here i))
+  where
+    here : (i : ℕ) → byte_at i v ≡ v / 256 ^ i % 256
+    here zero = rw div-one
+    here (suc i) = refl
 
-pub put-end : (s goal : List ℕ) (n i x : ℕ) → n ≤ i → sets s i (low_first (n - i) x) ≡ goal → s ≡ goal
+-- a number's bytes over zeros
+zeros-filled : (k n v : ℕ) → v < 256 ^ k → sets (replicate n 0) 0 (low_first k v) ≡ low_first n v
 unfolding low_first
-put-end s goal n i x h e =
-    let p : n - i ≡ 0 = omega arith in
-    rw p at e
+zeros-filled zero n v h =
+    let z : v ≡ 0 = omega arith in
+    rw z (sym (low_zeros n))
+zeros-filled (suc k) zero v h = sets-past [] (low_first (suc k) v) 0 (omega arith)
+zeros-filled (suc k) (suc n) v h =
+    let later : v / 256 < 256 ^ k = omega (arith, rw (pow-succ' 256 k) at h) in
+    sets-later (v % 256) (replicate n 0) (low_first k (v / 256)) 0 ∙ ap (λ l. v % 256 ∷ l) (zeros-filled k n (v / 256) later)
+
+pub number_put :
+    (s zeros bytes filled : List ℕ) (v : ℕ) →
+    v < 2 ^ 64 →
+    zeros ≡ replicate (length s) 0 →
+    bytes ≡ to_le_bytes w64 v →
+    filled ≡ sets zeros 0 bytes →
+    filled ≡ low_first (length s) v
+number_put s zeros bytes filled v h z b f =
+    let e : bytes ≡ low_first 8 v = b ∙ low_bytes 0 8 v ∙ rw div-one in
+    f ∙ rw (z, e) (zeros-filled 8 (length s) v h)
 
 -- the first bytes of a number
 low-take : (k n v : ℕ) → k ≤ n → take k (low_first n v) ≡ low_first k v
@@ -108,22 +121,3 @@ module _ (widths values : List ℕ) (i : ℕ) where
       by : Dec (i < length widths) → s ≡ goal
       by (no k) = rw (drop_of_length-le widths {i = i} (omega arith)) at e
       by (yes k) = rw (drop_of_length-le values {i = i} (omega arith), fields-nil) at e
-
--- bytes that are copied, from the i-th on
-pub copy_more :
-    (s from goal : List ℕ) (i : ℕ) →
-    i < length from →
-    sets s i (drop i from) ≡ goal →
-    sets (set s i (get_or from i 0)) (i + 1) (drop (i + 1) from) ≡ goal
-copy_more s from goal i h e = rw add-one (rw (drop-cons from i 0 h) at e)
-
-pub copy-end :
-    (s from goal : List ℕ) (i : ℕ) →
-    min (length s) (length from) ≤ i →
-    sets s i (drop i from) ≡ goal →
-    s ≡ goal
-copy-end s from goal i h e = by (dec_lt i (length from))
-  where
-    by : Dec (i < length from) → s ≡ goal
-    by (no k) = rw (drop_of_length-le from {i = i} (omega arith)) at e
-    by (yes k) = sym (sets-past s (drop i from) i (omega arith)) ∙ e

@@ -2,13 +2,13 @@
 use mathlib.Core.Bool.{Bool, true, false}
 use mathlib.Core.List.{List, [], ◌∷◌, ◌++◌, append_assoc}
 use mathlib.Core.Path.{◌≡◌, refl, sym, ◌∙◌, ap}
-use Prim.Native.Nat.{ℕ, zero, suc, ◌+◌, ◌*◌, ◌-◌, ◌^◌, ◌<◌, ◌≤◌}
-use native.Mathlib.Nat.{not-suc-le-zero, one-le-pow, pow-succ'}
+use Prim.Native.Nat.{ℕ, zero, suc, ◌+◌, ◌*◌, ◌-◌, ◌%◌, ◌^◌, ◌<◌, ◌≤◌}
+use native.Mathlib.Nat.{not-suc-le-zero, one-le-pow, pow-succ', mul-suc, mul-le-mul_left}
 use native.Mathlib.Numerals.{add-one}
 use native.Mathlib.Omega.{arith}
 use borrow.Rule.Slice.PartMut.{put_mid}
-use lib.ListN.{length, get_or, take, drop, drop_of_length-le, length-append, length-drop}
-use lib.Seq.{sets, drop-cons, length-sets}
+use lib.ListN.{length, get_or, take, drop, length-append, length-take}
+use lib.Seq.{sets, length-sets}
 use Rattle.endian.specs.Stores.{low_first, fields}
 use Rattle.endian.proofs.Runs.{length-low, part-run, put-part, run_more, run-left, sets-whole}
 use Rattle.window.specs.Block.{flag, bucket_values, buckets, downward, column, bits, block_bytes}
@@ -47,6 +47,22 @@ buckets-more counters l cur part b h k e e' =
     (run_more l cur _ (column 4 (buckets counters b)) (column 4 (bucket_values counters b)) 0 (16 * b) (omega arith) e
     (part-run cur part (column 4 (bucket_values counters b)) (16 * b) 16 (omega arith) one e'))
 
+-- the place of the last of n counters, and the end of its value
+pub lower-place :
+    (start width n at : ℕ) →
+    0 < n →
+    n ≤ 12 →
+    at ≡ start + width * (11 - (n - 1)) →
+    let here = start + width * (12 - n) in
+    (at ≡ here) × (start + width * (12 - (n - 1)) ≡ here + width) × (at + width ≤ start + width * 12)
+lower-place start width n at h k e =
+    let place : 11 - (n - 1) ≡ 12 - n = omega arith in
+    let next : 12 - (n - 1) ≡ suc (12 - n) = omega arith in
+    let last : width * (12 - n) + width ≤ width * 12 =
+    omega (arith, mul-le-mul_left {m = suc (12 - n)} {n = 12} width (omega arith), mul-suc width (12 - n))
+    in
+    rw (e, place, next) (refl, omega (arith, mul-suc width (12 - n)), omega arith)
+
 -- values of one width, the last counter's first: the last of those that are left, and none left
 module _ (width : ℕ) (values : List ℕ) where
   pub downward-more :
@@ -79,22 +95,15 @@ module _ (width : ℕ) (values : List ℕ) where
       let z : n ≡ 0 = omega arith in
       rw z at e
 
--- the bits from n on: none past the end, and one more
-pub bits_none : (units : List Bool) (n : ℕ) → length units ≤ n → bits (drop n units) ≡ 0
-unfolding bits
-bits_none units n h = rw (drop_of_length-le units h)
-
+-- one bit more
 pub bits-more :
-    (units : List Bool) (n r : ℕ) →
-    0 < n →
-    n ≤ length units →
-    r ≡ bits (drop n units) →
-    2 * r + flag (get_or units (n - 1) false) ≡ bits (drop (n - 1) units)
+    (units : List Bool) (n : ℕ) →
+    n < length units →
+    bits (take (n + 1) units) ≡ bits (take n units) + flag (get_or units n false) * 2 ^ n
 unfolding bits
-bits-more units zero r h k e = absurd (not-suc-le-zero h)
-bits-more units (suc n) r h k e =
-    let m : suc n - 1 ≡ n = omega arith in
-    rw (m, drop-cons units n false k, e) (omega arith)
+bits-more [] n h = absurd (not-suc-le-zero h)
+bits-more (b ∷ units) zero h = omega arith
+bits-more (b ∷ units) (suc n) h = rw (add-one, pow-succ' 2 n) (omega (arith, rw add-one at (bits-more units n (omega arith))))
 
 pub flag-below : (b : Bool) → flag b < 2
 flag-below true = omega arith
@@ -107,8 +116,19 @@ bits_below (b ∷ units) zero h = absurd (not-suc-le-zero h)
 bits_below (true ∷ units) (suc n) h = rw (pow-succ' 2 n) (omega (arith, bits_below units n (omega arith)))
 bits_below (false ∷ units) (suc n) h = rw (pow-succ' 2 n) (omega (arith, bits_below units n (omega arith)))
 
-pub bits_fit : (units : List Bool) (n : ℕ) → length units ≤ 12 → bits (drop n units) < 4096
-bits_fit units n h = bits_below (drop n units) 12 (omega (arith, length-drop n units))
+pub bits_fit : (units : List Bool) → length units ≤ 12 → bits units < 4096
+bits_fit units h = bits_below units 12 h
+
+pub bit-added :
+    (units : List Bool) (n mask bit : ℕ) →
+    length units ≡ 12 →
+    n < 12 →
+    mask ≡ bits (take n units) →
+    bit ≡ flag (get_or units n false) →
+    (mask + bit * 2 ^ n % 2 ^ 64 ≡ bits (take (n + 1) units)) × (bits (take (n + 1) units) < 4096)
+bit-added units n mask bit k h e b =
+    let fits : bits (take (n + 1) units) < 4096 = bits_fit (take (n + 1) units) (omega (arith, length-take (n + 1) units)) in
+    rw (e, b) (omega (arith, bits-more units n (omega arith)), fits)
 
 -- the four parts, one after the other
 block-parts :

@@ -1,68 +1,38 @@
--- Laws of the block's reader: arrays filled one by one, and tests asked one by one.
-use mathlib.Core.Bool.{Bool, true, false, not, cond, ◌&&◌, ◌||◌}
+-- Laws of the block's reader: the flags of a mask, and tests asked one by one.
+use mathlib.Core.Bool.{Bool, false, not, ◌&&◌}
 use mathlib.Core.List.{List}
-use mathlib.Core.Path.{◌≡◌, refl}
-use Prim.Native.Nat.{ℕ, suc, ◌+◌, ◌-◌, ◌/◌, ◌%◌, ◌<◌, ◌≤◌}
+use mathlib.Core.Path.{◌≡◌, refl, ◌∙◌}
+use Prim.Native.Nat.{ℕ, zero, suc, ◌+◌, ◌-◌, ◌/◌, ◌%◌, ◌^◌, ◌<◌, ◌≤◌}
+use native.Mathlib.Nat.{div-one, div-div-eq-div-mul, pow-suc}
 use native.Mathlib.Numerals.{add-one}
 use native.Mathlib.Omega.{arith}
-use borrow.Author.Tests.{eqb-true, le-ltb}
 use lib.Dec.{eqb, ltb}
-use lib.ListN.{length, get_or, set}
-use lib.Seq.{sets}
+use lib.ListN.{get_or}
 use Rattle.endian.specs.Bytes.{any_set}
 use Rattle.endian.specs.Loads.{number, part, values_at}
-use Rattle.endian.proofs.Runs.{sets-whole}
 use Rattle.window.specs.Tests.{passes}
 use Rattle.window.specs.Block.{flags, counter_place, stamp_place, latency_place}
 use Rattle.window.specs.BlockReader.{window_in, counter_fits, window_fits, block_keeps}
-use Rattle.window.specs.Fields.{unset, window_of, from, each}
+use Rattle.window.specs.Fields.{window_of, from, each}
 use Rattle.window.specs.declared.fields.Window.{Window}
 
 -- the field of each counter in a block, by its place and width
 abbrev pub field_of : (place : ℕ → ℕ) (width : ℕ) → List ℕ → ℕ → ℕ
 field_of place width block n = number (part (place n) width block)
 
--- an array of twelve that is filled up to n: what is left, stored from there, gives the whole
-abbrev pub Filled : {A : Type 0} → (ℕ → A) → ℕ → List A → Type 0
-Filled f n l = (n ≤ 12) × (sets l n (from n (12 - n) f) ≡ each f)
+-- the flag of counter n in a mask, and all twelve
+abbrev pub flag_of : ℕ → ℕ → Bool
+flag_of mask n = eqb (mask / 2 ^ n % 2) 1
 
-module _ {A : Type 0} (f : ℕ → A) where
-  pub fill_start : (l : List A) → length l ≡ 12 → Filled f 0 l
-  unfolding from
-  fill_start l h = (omega arith, sets-whole l (each f) (rw h))
+flags-from : (i n mask : ℕ) → from i n (flag_of mask) ≡ flags n (mask / 2 ^ i)
+unfolding from flags
+flags-from i zero mask = refl
+flags-from i (suc n) mask =
+    let later : mask / 2 ^ suc i ≡ mask / 2 ^ i / 2 = rw (div-div-eq-div-mul mask (2 ^ i) 2, pow-suc 2 i) in
+    rw (flags-from (suc i) n mask, later)
 
-  pub fill_more : (l : List A) (n : ℕ) (x : A) → n < 12 → x ≡ f n → Filled f n l → Filled f (n + 1) (set l n x)
-  unfolding from
-  fill_more l n x h e k =
-      let p : 12 - n ≡ suc (12 - suc n) = omega arith in
-      (omega arith, rw (add-one, e) (rw p at k.1))
-
-  pub fill_end : (l : List A) (n : ℕ) → 12 ≤ n → Filled f n l → l ≡ each f
-  unfolding from
-  fill_end l n h k =
-      let p : 12 - n ≡ 0 = omega arith in
-      rw p at k.1
-
--- the flags of a mask, from the lowest on
-pub flags-start : (l : List Bool) (mask : ℕ) → length l ≡ 12 → sets l 0 (flags (12 - 0) mask) ≡ flags 12 mask
-unfolding flags
-flags-start l mask h = sets-whole l (flags 12 mask) (rw h)
-
-pub flags-more :
-    (l goal : List Bool) (n rest : ℕ) →
-    n < 12 →
-    sets l n (flags (12 - n) rest) ≡ goal →
-    sets (set l n (eqb (rest % 2) 1)) (n + 1) (flags (12 - (n + 1)) (rest / 2)) ≡ goal
-unfolding flags
-flags-more l goal n rest h k =
-    let p : 12 - n ≡ suc (12 - suc n) = omega arith in
-    rw add-one (rw p at k)
-
-pub flags-end : (l goal : List Bool) (n rest : ℕ) → 12 ≤ n → sets l n (flags (12 - n) rest) ≡ goal → l ≡ goal
-unfolding flags
-flags-end l goal n rest h k =
-    let p : 12 - n ≡ 0 = omega arith in
-    rw p at k
+pub mask-flags : (mask : ℕ) → each (flag_of mask) ≡ flags 12 mask
+mask-flags mask = flags-from 0 12 mask ∙ rw div-one
 
 -- whether a counter of a window, by its number, keeps the rules
 abbrev pub tested : Window → ℕ → Bool
@@ -91,29 +61,6 @@ module _ (test : ℕ → Bool) where
   tests-end so_far answer n h k =
       let p : 12 - n ≡ 0 = omega arith in
       rw p at k
-
--- a counter: an unset stamp is not below 2^48
-pub counter-kept :
-    (counter stamp latency : ℕ) (unit : Bool) →
-    (ltb stamp 281474976710656 || (((eqb stamp unset && eqb counter 0) && eqb latency 0) && not unit)) ≡
-    counter_fits counter stamp latency unit
-unfolding counter_fits
-counter-kept counter stamp latency unit = by (eqb stamp unset) refl
-  where
-    shown : Bool
-    shown = (eqb counter 0 && eqb latency 0) && not unit
-
-    or-false : (b : Bool) → (b || false) ≡ b
-    or-false true = refl
-    or-false false = refl
-
-    by :
-        (t : Bool) →
-        eqb stamp unset ≡ t →
-        (ltb stamp 281474976710656 || (((t && eqb counter 0) && eqb latency 0) && not unit)) ≡
-        cond t shown (ltb stamp 281474976710656)
-    by true e = rw (le-ltb stamp 281474976710656 (omega (arith, eqb-true stamp unset e)))
-    by false e = or-false (ltb stamp 281474976710656)
 
 -- the arrays that were read by their places are those of the window
 pub block_read :

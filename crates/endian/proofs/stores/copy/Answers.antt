@@ -1,10 +1,7 @@
--- `copy`: what is left of the bytes, stored from here, gives them all.
-use borrow.Author.Rules.{rules}
-use Rattle.endian.proofs.stores.Laws.{copy_more, copy-end}
+-- `copy`: what has no room is left out.
+use mathlib.Core.Path.{sym}
+use Rattle.endian.proofs.Runs.{sets-room}
 use Rattle.endian.proofs.stores.copy.Goals as goal
 
-pub loop-i-preserved : goal.loop-i-preserved
-loop-i-preserved c = (search rules, search rules, copy_more _ c.args.from.now _ c.loop-i.i (search rules) c.loop-i.invariant.2)
-
 pub returns : goal.returns
-returns c = copy-end _ c.args.from.now _ c.loop-i.i (search rules) c.loop-i.invariant.2
+returns c = rw (c.copy_from_slice.ensures.after, c.min-n.ensures) (sym (sets-room c.args.s.now c.args.from.now))

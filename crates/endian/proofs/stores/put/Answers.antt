@@ -1,13 +1,8 @@
--- `put`: what is left of the number, stored from here, gives the whole.
-use borrow.Author.Rules.{rules}
-use Rattle.endian.proofs.stores.Laws.{put-start, put-more, put-end}
+-- `put`: the number's bytes over zeros.
+use Rattle.endian.proofs.stores.Laws.{number_put}
 use Rattle.endian.proofs.stores.put.Goals as goal
 
-pub loop-i-init : goal.loop-i-init
-loop-i-init c = (search rules, search rules, put-start c.args.s.now c.args.v)
-
-pub loop-i-preserved : goal.loop-i-preserved
-loop-i-preserved c = (search rules, search rules, put-more _ _ _ _ _ (search rules) c.loop-i.invariant.2)
-
 pub returns : goal.returns
-returns c = put-end _ _ _ _ _ (search rules) c.loop-i.invariant.2
+returns c =
+    number_put c.args.s.now _ _ _ c.args.v (c.ranges.v.fits) (c.fill.ensures.after (λ y e. e)) c.to_le_bytes.ensures
+    c.copy.ensures

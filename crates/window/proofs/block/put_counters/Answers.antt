@@ -1,6 +1,4 @@
 -- `put_counters`: a bucket after the other.
-use mathlib.Core.Path.{◌≡◌}
-use native.Mathlib.Omega.{arith}
 use borrow.Author.Rules.{rules}
 use Rattle.endian.specs.Stores.{fields}
 use Rattle.window.specs.Block.{buckets}
@@ -12,15 +10,7 @@ unfolding buckets fields
 loop-b-init c = search rules
 
 pub loop-b-preserved : goal.loop-b-preserved
-loop-b-preserved c = (
-  search rules,
-  search rules,
-  buckets-more c.args.counters _ _ _ c.loop-b.b (search rules) (search rules)
-      c.loop-b.invariant.2
-      c.put_bucket.ensures,
-)
-
-pub returns : goal.returns
-returns c =
-    let e : c.loop-b.b ≡ 4 = omega arith in
-    rw e at c.loop-b.invariant.2
+loop-b-preserved c = (buckets-more c.args.counters _ _ _ c.loop-b.b (search rules) (search rules)
+    c.loop-b.invariant
+    c.put_bucket.ensures
+    )

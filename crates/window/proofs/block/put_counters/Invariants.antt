@@ -1,14 +1,9 @@
 -- `put_counters`: a bucket after the other.
 use mathlib.Core.Path.{◌≡◌}
-use Prim.Native.Nat.{◌≤◌, ◌-◌}
-use lib.ListN.{length}
 use lib.Seq.{sets}
 use Rattle.window.specs.Block.{buckets, column}
 use Rattle.window.proofs.block.put_counters.Given as goal
 
 abbrev pub invariant-loop-b : goal.invariant-loop-b
 invariant-loop-b l =
-    (l.b ≤ 4) × (length l.block ≡ length l.initial.block) × (l.block ≡ sets l.initial.block 0 (column 4 (buckets l.counters l.b)))
-
-abbrev pub decreases-loop-b : goal.decreases-loop-b
-decreases-loop-b l = 4 - l.b
+    (l.block ≡ sets l.initial.block 0 (column 4 (buckets l.counters l.b)))

@@ -1,13 +1,12 @@
--- `units_in`: the flags that are left, stored from here, give all twelve.
+-- `units_in`: each flag is its bit of the mask.
+use mathlib.Core.Bool.{false}
+use mathlib.Core.Path.{◌∙◌}
 use borrow.Author.Rules.{rules}
-use Rattle.window.proofs.block_reader.Laws.{flags-start, flags-more, flags-end}
+use Rattle.window.proofs.Lists.{made-each}
+use Rattle.window.proofs.block_reader.Laws.{flag_of, mask-flags}
 use Rattle.window.proofs.block_reader.units_in.Goals as goal
 
-pub loop-n-init : goal.loop-n-init
-loop-n-init c = (search rules, flags-start _ c.args.mask (search rules))
-
-pub loop-n-preserved : goal.loop-n-preserved
-loop-n-preserved c = (search rules, flags-more _ _ c.loop-n.n c.loop-n.rest (search rules) c.loop-n.invariant.1)
-
 pub returns : goal.returns
-returns c = flags-end _ _ c.loop-n.n c.loop-n.rest (search rules) c.loop-n.invariant.1
+returns c =
+    made-each _ _ (flag_of c.args.mask) false (λ n unit f called. (search rules, search rules)) c.from_fn.result c.from_fn.ensures.items
+    ∙ mask-flags c.args.mask

@@ -7,13 +7,11 @@ use Rattle.window.proofs.block_reader.window_fits.Goals as goal
 
 pub loop-n-init : goal.loop-n-init
 unfolding window_fits
-loop-n-init c = (search rules, refl)
+loop-n-init c = (refl)
 
 pub loop-n-preserved : goal.loop-n-preserved
-loop-n-preserved c = (
-  search rules,
-  tests-more (tested c.args.w) _ _ c.loop-n.n _ (search rules) c.counter_fits-fits.ensures c.loop-n.invariant.1,
-)
+loop-n-preserved c = (tests-more (tested c.args.w) _ _ c.loop-n.n _ (search rules) c.counter_fits-fits.ensures c.loop-n.invariant
+    )
 
 pub returns : goal.returns
-returns c = tests-end (tested c.args.w) _ _ c.loop-n.n (search rules) c.loop-n.invariant.1
+returns c = tests-end (tested c.args.w) _ _ c.loop-n.n (search rules) c.loop-n.invariant
