@@ -3,7 +3,7 @@ use Prim.Native.Nat.{ℕ, zero, suc, ◌+◌, ◌*◌, ◌≤◌, ◌<◌}
 use mathlib.Core.Path.{◌≡◌, refl, sym, ap, subst, ◌∙◌}
 use mathlib.Core.Bool.{Bool, true, false, cond, ◌&&◌, and-true, and-false}
 use mathlib.Core.List.{List, [], ◌∷◌}
-use Rattle.std.specs.Prelude.{Option, None, Some}
+use Rattle.std.specs.Prelude.{Option, None, Some, IfSome}
 use native.Mathlib.Omega.{arith}
 use lib.Dec.{eqb}
 use lib.ListN.{length, get_or, replicate}
@@ -23,7 +23,7 @@ use Rattle.monitor.specs.Report.{chosen_window, counts_below_a}
 use Rattle.rules.specs.declared.commands.Command.{Command}
 use Rattle.rules.proofs.commands.Laws.{Becomes, slow, fast, kindless, disabled, becomes}
 use Rattle.history.proofs.Bounds.{since-all}
-use Rattle.history.proofs.Lists.{All, Some, entry, from-same}
+use Rattle.history.proofs.Lists.{All, entry, from-same}
 use Rattle.history.proofs.Play.{played-as-facts}
 
 pub below-a-shows-facts : BelowAShowsFacts
@@ -51,23 +51,23 @@ data FallsIn (x : Completed) : Type 0 where
 abbrev Falls : Completed → Type 0
 Falls x = (x.kind < 3) × FallsIn x
 
-falls : (e : Effect) (past : Past) → Some Falls (completed_at e past)
+falls : (e : Effect) (past : Past) → IfSome (completed_at e past) Falls
 falls e past = by (completion_in e)
   where
-    none_here : (c : Command) (o : Option ℕ) → Some Falls (completed_if false o c past)
+    none_here : (c : Command) (o : Option ℕ) → IfSome (completed_if false o c past) Falls
     none_here c None = tt
     none_here c (Some k) = tt
 
     as-becomes :
         (c : Command) →
         Becomes (in_force past) c →
-        Some Falls (completed_if (in_force past).enabled (kind_of c) c past)
+        IfSome (completed_if (in_force past).enabled (kind_of c) c past) Falls
     as-becomes c (slow k b few low on kind reached e) = rw (kind, on) (few, in-bucket b low reached (rw e))
     as-becomes c (fast k few on kind below e e') = rw (kind, on) (few, below_a below (rw e))
     as-becomes c (kindless kind e e') = rw kind tt
     as-becomes c (disabled off e e') = rw off (none_here c (kind_of c))
 
-    by : (o : Option Command) → Some Falls (found None (λ c. completed_if (in_force past).enabled (kind_of c) c past) o)
+    by : (o : Option Command) → IfSome (found None (λ c. completed_if (in_force past).enabled (kind_of c) c past) o) Falls
     by None = tt
     by (Some c) = as-becomes c (becomes (in_force past) c)
 

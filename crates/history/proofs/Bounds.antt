@@ -3,7 +3,7 @@ use Prim.Native.Nat.{ℕ, zero, suc, ◌*◌, ◌-◌, ◌/◌, ◌<◌}
 use mathlib.Core.Path.{◌≡◌, refl}
 use mathlib.Core.Bool.{Bool, true, false}
 use mathlib.Core.List.{List, [], ◌∷◌}
-use Rattle.std.specs.Prelude.{Option, None, Some}
+use Rattle.std.specs.Prelude.{Option, None, Some, IfSome}
 use native.Mathlib.Decide.{dec_lt}
 use native.Mathlib.Omega.{arith}
 use lib.ListN.{get_or}
@@ -29,24 +29,24 @@ use Rattle.rules.specs.Settings.{decoded}
 use Rattle.rules.proofs.Refusals.{Accepted, accepted}
 use Rattle.rules.proofs.commands.Laws.{counter-below}
 use Rattle.history.proofs.Facts.{Good, enabled-positive, clock-top}
-use Rattle.history.proofs.Lists.{All, Some, every, all-those, length_from}
+use Rattle.history.proofs.Lists.{All, every, all-those, length_from}
 use Rattle.history.proofs.Play.{good}
 use Rattle.history.proofs.Windows.{high}
 
 -- what the latest place finds, and what is found since a place, have what each place finds
 module _ {A : Type 0} (P : A → Type 0) where
-  pub latest-some : (f : Effect → Option A) (past : Past) → All (λ e. Some P (f e)) past → Some P (latest f past)
+  pub latest-some : (f : Effect → Option A) (past : Past) → All (λ e. IfSome (f e) P) past → IfSome (latest f past) P
   unfolding latest
   latest-some f [] a = tt
   latest-some f (e ∷ past) a = by (f e) a.0 (latest-some f past a.1)
     where
-      by : (o : Option A) → Some P o → Some P (latest f past) → Some P (or_else o (latest f past))
+      by : (o : Option A) → IfSome o P → IfSome (latest f past) P → IfSome (or_else o (latest f past)) P
       by None k earlier = earlier
       by (Some x) k earlier = k
 
   pub since-each :
       {B : Type 0} (start : Effect → Option B) (f : Effect → Past → Option A) (past : Past) →
-      All (λ e. (before : Past) → Some P (f e before)) past →
+      All (λ e. (before : Past) → IfSome (f e before) P) past →
       All P (since start f past)
   unfolding since
   since-each start f [] a = tt
@@ -54,7 +54,7 @@ module _ {A : Type 0} (P : A → Type 0) where
     where
       by :
           (b : Option B) (o : Option A) →
-          Some P o →
+          IfSome o P →
           All P (since start f past) →
           All P (unless_found b (and_then o (since start f past)))
       by (Some y) o q earlier = tt
@@ -63,7 +63,7 @@ module _ {A : Type 0} (P : A → Type 0) where
 
   pub since-all :
       {B : Type 0} (start : Effect → Option B) (f : Effect → Past → Option A) →
-      ((e : Effect) (past : Past) → Some P (f e past)) →
+      ((e : Effect) (past : Past) → IfSome (f e past) P) →
       (past : Past) →
       All P (since start f past)
   since-all start f k past = since-each start f past (every k past)
@@ -101,16 +101,16 @@ pub record Sound (s : List ℕ) : Type 0 where
   pub accepted : Accepted s
 
 abbrev pub SoundPast : Past → Type 0
-SoundPast past = All (λ e. Some Sound (settings_in e)) past
+SoundPast past = All (λ e. IfSome (settings_in e) Sound) past
 
-none_in : (r : Option ℕ) (e : Effect) → Some Sound (settings_in e) → Some Sound (settings_in (if_accepted r e))
+none_in : (r : Option ℕ) (e : Effect) → IfSome (settings_in e) Sound → IfSome (settings_in (if_accepted r e)) Sound
 none_in None e k = k
 none_in (Some n) e k = tt
 
-sound-call : (c : Call) → Bytes (found [] (λ s. s) (settings_in (asked c))) → Some Sound (settings_in (effect_of c))
+sound-call : (c : Call) → Bytes (found [] (λ s. s) (settings_in (asked c))) → IfSome (settings_in (effect_of c)) Sound
 sound-call (settings s) b = by (settings_refusal s) refl
   where
-    by : (r : Option ℕ) → settings_refusal s ≡ r → Some Sound (settings_in (if_accepted r (configured s)))
+    by : (r : Option ℕ) → settings_refusal s ≡ r → IfSome (settings_in (if_accepted r (configured s))) Sound
     by None e = record { bytes = b; accepted = accepted s e }
     by (Some n) e = tt
 sound-call (completion c) b = tt
@@ -130,7 +130,7 @@ module _ (past : Past) (sound : SoundPast past) where
   unfolding in_force
   settings-fit = by (latest settings_in past) (latest-some Sound settings_in past sound)
     where
-      by : (o : Option (List ℕ)) → Some Sound o → FitsSettings (found no_settings decoded o)
+      by : (o : Option (List ℕ)) → IfSome o Sound → FitsSettings (found no_settings decoded o)
       by None k = none-fit
       by (Some s) k = settings-of-bytes s k.bytes
 
@@ -138,22 +138,22 @@ module _ (past : Past) (sound : SoundPast past) where
   unfolding timer_threshold_of
   threshold-below = by (latest enabling_in past) (latest-some FitsSettings enabling_in past (each_fits past sound))
     where
-      of-settings : (s : List ℕ) → Sound s → (b : Bool) → Some FitsSettings (only_if b (decoded s))
+      of-settings : (s : List ℕ) → Sound s → (b : Bool) → IfSome (only_if b (decoded s)) FitsSettings
       of-settings s k true = settings-of-bytes s k.bytes
       of-settings s k false = tt
 
       of-effect :
           (o : Option (List ℕ)) →
-          Some Sound o →
-          Some FitsSettings (found None (λ s. only_if (decoded s).enabled (decoded s)) o)
+          IfSome o Sound →
+          IfSome (found None (λ s. only_if (decoded s).enabled (decoded s)) o) FitsSettings
       of-effect None k = tt
       of-effect (Some s) k = of-settings s k (decoded s).enabled
 
-      each_fits : (q : Past) → SoundPast q → All (λ e. Some FitsSettings (enabling_in e)) q
+      each_fits : (q : Past) → SoundPast q → All (λ e. IfSome (enabling_in e) FitsSettings) q
       each_fits [] k = tt
       each_fits (e ∷ q) k = (of-effect (settings_in e) k.0, each_fits q k.1)
 
-      by : (o : Option Settings) → Some FitsSettings o → found 0 (λ (s : Settings). s.timer_threshold) o < 65536
+      by : (o : Option Settings) → IfSome o FitsSettings → found 0 (λ (s : Settings). s.timer_threshold) o < 65536
       by None k = omega arith
       by (Some s) k = k.threshold
 
@@ -215,34 +215,33 @@ latency-below (Some x) = ms-below x.command
 abbrev pub OfTwelve : Counted → Type 0
 OfTwelve x = x.counter < 12
 
-pub few : (e : Effect) (past : Past) → Some OfTwelve (counted_at e past)
+pub few : (e : Effect) (past : Past) → IfSome (counted_at e past) OfTwelve
 few e past = by (completion_in e)
   where
     named :
         (c : Command) (o : Option ℕ) →
         counter_of (in_force past) c ≡ o →
-        Some OfTwelve (found None (λ n. Some (record { counter = n; command = c; before = past })) o)
+        IfSome (found None (λ n. Some (record { counter = n; command = c; before = past })) o) OfTwelve
     named c None q = tt
     named c (Some n) q = counter-below (in_force past) c n q
 
-    of-kind : (c : Command) (k : Option ℕ) (on : Bool) → Some OfTwelve (found None counted_of (completed_if on k c past))
+    of-kind : (c : Command) (k : Option ℕ) (on : Bool) → IfSome (found None counted_of (completed_if on k c past)) OfTwelve
     of-kind c None on = tt
     of-kind c (Some k) false = tt
     of-kind c (Some k) true = named c (counter_of (in_force past) c) refl
 
     by :
         (o : Option Command) →
-        Some OfTwelve
-        (found None counted_of (found None (λ c. completed_if (in_force past).enabled (kind_of c) c past) o))
+        IfSome (found None counted_of (found None (λ c. completed_if (in_force past).enabled (kind_of c) c past) o)) OfTwelve
     by None = tt
     by (Some c) = of-kind c (kind_of c) (in_force past).enabled
 
-pub first_some : (P : Counted → Type 0) (xs : List Counted) → All P xs → Some P (earliest xs)
+pub first_some : (P : Counted → Type 0) (xs : List Counted) → All P xs → IfSome (earliest xs) P
 unfolding earliest
 first_some P [] a = tt
 first_some P (x ∷ xs) a = by (earliest xs) (first_some P xs a.1)
   where
-    by : (o : Option Counted) → Some P o → Some P (or_earliest x o)
+    by : (o : Option Counted) → IfSome o P → IfSome (or_earliest x o) P
     by None k = a.0
     by (Some y) k = k
 
@@ -252,7 +251,7 @@ debug-fits past =
     by (earliest (filter triggered (since discard_in counted_at past)))
     (first_some OfTwelve _ (all-those triggered (λ x t k. k) _ (since-all OfTwelve discard_in counted_at few past)))
   where
-    by : (o : Option Counted) → Some OfTwelve o → FitsDebug (found no_debug_log log_of o)
+    by : (o : Option Counted) → IfSome o OfTwelve → FitsDebug (found no_debug_log log_of o)
     by None k = record { stamp = omega arith; latency = omega arith; source = omega arith }
     by (Some x) k =
         record {

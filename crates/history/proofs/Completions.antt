@@ -3,7 +3,7 @@ use Prim.Native.Nat.{ℕ, ◌+◌, ◌-◌, ◌*◌, ◌%◌, ◌<◌}
 use mathlib.Core.Path.{◌≡◌, refl, sym, ap, ◌∙◌}
 use mathlib.Core.Bool.{Bool, true, false, cond, ◌&&◌, and-false}
 use mathlib.Core.List.{List, ◌∷◌}
-use Rattle.std.specs.Prelude.{Option, None, Some}
+use Rattle.std.specs.Prelude.{Option, None, Some, IfSome}
 use native.Mathlib.Nat.{zero-add}
 use native.Mathlib.Omega.{arith}
 use lib.Dec.{eqb}
@@ -32,7 +32,7 @@ use Rattle.rules.proofs.commands.Laws.{Becomes, slow, fast, kindless, disabled, 
 use Rattle.monitor.proofs.Laws.{uncounted, decide}
 use Rattle.history.proofs.Facts.{Good, fine-counted, Here, here, span, into, clock-top, last-load-all}
 use Rattle.history.proofs.Facts.{described, fast-within, fast-preceding}
-use Rattle.history.proofs.Lists.{All, Some, all-those, from_at, from-same, from-stored, counts-stored}
+use Rattle.history.proofs.Lists.{All, all-those, from_at, from-same, from-stored, counts-stored}
 use Rattle.history.proofs.Windows.{in_window_lem}
 
 -- the time in the active window, as the record has it
@@ -127,7 +127,7 @@ module _ (past : Past) (c : Command) (n : ℕ) where
     where
       by :
           (o : Option Counted) →
-          Some (Here past) o →
+          IfSome o (Here past) →
           loads (stamp_of o) (latency_of o) (enabled_time past % span past - loaded_of o) (milliseconds_of c)
           (bit (in_force past).mode n)
           (in_force past).minimum_window ≡

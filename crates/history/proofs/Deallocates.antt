@@ -3,7 +3,7 @@ use Prim.Native.Nat.{ℕ, ◌<◌}
 use mathlib.Core.Path.{◌≡◌, refl}
 use mathlib.Core.Bool.{Bool, true, false, and-false}
 use mathlib.Core.List.{[], ◌∷◌}
-use Rattle.std.specs.Prelude.{Option, None, Some}
+use Rattle.std.specs.Prelude.{Option, None, Some, IfSome}
 use native.Mathlib.Omega.{arith}
 use borrow.Author.Tests.{ne_eqb}
 use Rattle.rules.specs.declared.commands.Command.{Command}
@@ -18,7 +18,7 @@ use Rattle.history.specs.Effects.{Effect, Past, asked, if_accepted, completion_i
 use Rattle.rules.proofs.commands.Laws.{kind-without}
 use Rattle.history.proofs.BelowA.{all-zero}
 use Rattle.history.proofs.Bounds.{since-each}
-use Rattle.history.proofs.Lists.{All, Some, all_map, those-none}
+use Rattle.history.proofs.Lists.{All, all_map, those-none}
 
 pub never-deallocate : NeverDeallocate
 never-deallocate c without e = omega (arith, kind-without c 2 without e)
@@ -48,7 +48,7 @@ without-past (call ∷ h) a = (by (refusal_of call) (asked call) (as-asked call 
 abbrev ReadOrWrite : Completed → Type 0
 ReadOrWrite x = x.kind < 2
 
-read-or-write : (e : Effect) → Without e → (before : Past) → Some ReadOrWrite (completed_at e before)
+read-or-write : (e : Effect) → Without e → (before : Past) → IfSome (completed_at e before) ReadOrWrite
 read-or-write e without before = by (completion_in e) without
   where
     of-kind :
@@ -56,7 +56,7 @@ read-or-write e without before = by (completion_in e) without
         c.deallocate ≡ false →
         (on : Bool) (o : Option ℕ) →
         kind_of c ≡ o →
-        Some ReadOrWrite (completed_if on o c before)
+        IfSome (completed_if on o c before) ReadOrWrite
     of-kind c without on None k = tt
     of-kind c without true (Some n) k = kind-without c n without k
     of-kind c without false (Some n) k = tt
@@ -64,7 +64,7 @@ read-or-write e without before = by (completion_in e) without
     by :
         (o : Option Command) →
         found false (λ (c : Command). c.deallocate) o ≡ false →
-        Some ReadOrWrite (found None (λ c. completed_if (in_force before).enabled (kind_of c) c before) o)
+        IfSome (found None (λ c. completed_if (in_force before).enabled (kind_of c) c before) o) ReadOrWrite
     by None without = tt
     by (Some c) without = of-kind c without (in_force before).enabled (kind_of c) refl
 

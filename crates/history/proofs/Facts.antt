@@ -3,7 +3,7 @@ use Prim.Native.Nat.{ℕ, ◌+◌, ◌*◌, ◌-◌, ◌%◌, ◌≤◌, ◌<◌
 use mathlib.Core.Path.{◌≡◌, refl, sym, ap, ◌∙◌}
 use mathlib.Core.Bool.{Bool, true, false, cond, ◌&&◌, false≢true, true≢false}
 use mathlib.Core.List.{List, [], ◌∷◌}
-use Rattle.std.specs.Prelude.{Option, None, Some}
+use Rattle.std.specs.Prelude.{Option, None, Some, IfSome}
 use native.Mathlib.Nat.{div-add-mod'}
 use native.Mathlib.Omega.{arith}
 use borrow.Author.Tests.{eqb-true}
@@ -23,7 +23,7 @@ use Rattle.history.specs.Effects.{Effect, configured, completed, passed, clock_s
 use Rattle.history.specs.Effects.{unless_found, latest, since}
 use Rattle.monitor.specs.Calls.{only_if, found, and_then}
 use Rattle.rules.specs.Settings.{decoded}
-use Rattle.history.proofs.Lists.{All, Some, all_map, all_found}
+use Rattle.history.proofs.Lists.{All, all_map, all_found}
 use Rattle.history.proofs.Windows.{later}
 
 -- what acceptance says of an effect
@@ -154,21 +154,20 @@ fine-counted past g =
         (x : Completed) →
         FineAt past x →
         (o : Option ℕ) →
-        Some (λ (y : Counted). Fine past y.before)
-        (found None (λ n. Some (record { counter = n; command = x.command; before = x.before })) o)
+        IfSome (found None (λ n. Some (record { counter = n; command = x.command; before = x.before })) o) (λ (y : Counted). Fine past y.before)
     by x k None = tt
     by x k (Some n) = k
 
-pub last-load-all : (P : Counted → Type 0) (xs : List Counted) → All P xs → Some P (last_load xs)
+pub last-load-all : (P : Counted → Type 0) (xs : List Counted) → All P xs → IfSome (last_load xs) P
 unfolding last_load
 last-load-all P [] a = tt
 last-load-all P (x ∷ xs) a = go (last_load xs) (last-load-all P xs a.1)
   where
-    pick : (y : Counted) (b : Bool) → P y → Some P (cond b (Some x) (Some y))
+    pick : (y : Counted) (b : Bool) → P y → IfSome (cond b (Some x) (Some y)) P
     pick y true k = a.0
     pick y false k = k
 
-    go : (o : Option Counted) → Some P o → Some P (or_load x o)
+    go : (o : Option Counted) → IfSome o P → IfSome (or_load x o) P
     go None k = a.0
     go (Some y) k = pick y (loads_after x y) k
 

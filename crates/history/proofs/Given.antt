@@ -3,7 +3,7 @@ use Prim.Native.Nat.{ℕ, zero, suc, ◌+◌, ◌*◌, ◌/◌, ◌%◌, ◌≤�
 use mathlib.Core.Path.{◌≡◌, refl, sym, ap, ◌∙◌}
 use mathlib.Core.Bool.{Bool, true, false, ◌||◌, true≢false}
 use mathlib.Core.List.{List, [], ◌∷◌, ◌++◌}
-use Rattle.std.specs.Prelude.{Option, None, Some}
+use Rattle.std.specs.Prelude.{Option, None, Some, IfSome}
 use native.Mathlib.Omega.{arith}
 use lib.Dec.{eqb, ltb}
 use lib.ListN.{length, get_or, set, drop, replicate, length-drop}
@@ -27,7 +27,6 @@ use Rattle.rules.specs.Refusals.{page_refusal, settings_back_refusal}
 use Rattle.monitor.specs.Report.{fields_of, page_of, after_page, settings_of, after_settings_back}
 use Rattle.rules.specs.Settings.{decoded, encoded, discard, enable}
 use Rattle.history.proofs.Bounds.{Sound, sound-past, latest-some}
-use Rattle.history.proofs.Lists.{Some}
 use Rattle.history.proofs.Play.{played-as-facts}
 use Rattle.rules.proofs.Refusals.{Accepted}
 
@@ -119,7 +118,7 @@ settings-come-back h b =
   where
     by :
         (o : Option (List ℕ)) →
-        Some Sound o →
+        IfSome o Sound →
         encoded (found no_settings decoded o) ≡ found (replicate 4096 0) (λ s. set s 11 0) o
     by None k = none-back
     by (Some s) k = round_trip s k.bytes k.accepted

@@ -3,7 +3,7 @@ use Prim.Native.Nat.{ℕ, zero, suc, ◌+◌, ◌≤◌, ◌<◌}
 use mathlib.Core.Path.{◌≡◌, refl, sym, ap, ◌∙◌}
 use mathlib.Core.Bool.{Bool, true, false, cond}
 use mathlib.Core.List.{List, [], ◌∷◌}
-use Rattle.std.specs.Prelude.{Option, None, Some}
+use Rattle.std.specs.Prelude.{Option, None, Some, IfSome}
 use native.Mathlib.Nat.{zero-add, add-zero, not-suc-le-zero}
 use native.Mathlib.Omega.{arith}
 use lib.Dec.{eqb}
@@ -74,11 +74,6 @@ module _ {A : Type 0} where
   length_from i zero f = refl
   length_from i (suc n) f = ap suc (length_from (suc i) n f)
 
--- a fact of what is there
-abbrev pub Some : {A : Type 0} → (A → Type 0) → Option A → Type 0
-Some P None = Unit {0}
-Some P (Some x) = P x
-
 pub every : {A : Type 0} {P : A → Type 0} → ((x : A) → P x) → (xs : List A) → All P xs
 every f [] = tt
 every f (x ∷ xs) = (f x, every f xs)
@@ -90,7 +85,7 @@ all_map f (x ∷ xs) h = (f x h.0, all_map f xs h.1)
 -- what is found of entries
 pub all_found :
     {A B : Type 0} (P : A → Type 0) (Q : B → Type 0) (f : A → Option B) →
-    ((x : A) → P x → Some Q (f x)) →
+    ((x : A) → P x → IfSome (f x) Q) →
     (xs : List A) →
     All P xs →
     All Q (filter_map f xs)
@@ -98,7 +93,7 @@ unfolding filter_map
 all_found P Q f k [] h = tt
 all_found {B = B} P Q f k (x ∷ xs) h = by (f x) (k x h.0) (all_found P Q f k xs h.1)
   where
-    by : (o : Option B) → Some Q o → All Q (filter_map f xs) → All Q (and_then o (filter_map f xs))
+    by : (o : Option B) → IfSome o Q → All Q (filter_map f xs) → All Q (and_then o (filter_map f xs))
     by None q rest = rest
     by (Some y) q rest = (q, rest)
 

@@ -3,7 +3,7 @@ use Prim.Native.Nat.{ℕ, ◌≤◌, ◌<◌, ◌^◌}
 use mathlib.Core.Path.{◌≡◌, refl, sym, ap, ◌∙◌}
 use mathlib.Core.Bool.{Bool, true, false, cond, ◌||◌}
 use mathlib.Core.List.{List, [], ◌∷◌}
-use Rattle.std.specs.Prelude.{Option, None, Some}
+use Rattle.std.specs.Prelude.{Option, None, Some, IfSome}
 use native.Mathlib.Omega.{arith}
 use lib.Dec.{ltb}
 use lib.Pow.{pow-lt}
@@ -29,7 +29,7 @@ use Rattle.history.proofs.Bounds.{Sound, SoundPast, sound-past, latest-some, OfT
 use Rattle.history.proofs.Bounds.{since-all, facts-fit}
 use Rattle.history.proofs.Facts.{clock-top}
 use Rattle.history.proofs.Given.{page-shows-facts, settings-show-facts, settings-come-back}
-use Rattle.history.proofs.Lists.{Some, all-those, entry}
+use Rattle.history.proofs.Lists.{all-those, entry}
 
 -- masks of the settings in force
 abbrev MasksFit : Settings → Type 0
@@ -49,7 +49,7 @@ masks-fit : (past : Past) → SoundPast past → MasksFit (in_force past)
 unfolding in_force no_settings
 masks-fit past sound = by (latest settings_in past) (latest-some Sound settings_in past sound)
   where
-    by : (o : Option (List ℕ)) → Some Sound o → MasksFit (found no_settings decoded o)
+    by : (o : Option (List ℕ)) → IfSome o Sound → MasksFit (found no_settings decoded o)
     by None k = (refl, refl)
     by (Some s) k = both-within (decoded s).mode (decoded s).trigger k.accepted.masks
 
@@ -99,7 +99,7 @@ debug-keeps past =
     by (earliest (filter triggered (since discard_in counted_at past)))
     (first_some OfTwelve _ (all-those triggered (λ x t k. k) _ (since-all OfTwelve discard_in counted_at few past)))
   where
-    by : (o : Option Counted) → Some OfTwelve o → debug_fits (found no_debug_log log_of o) ≡ true
+    by : (o : Option Counted) → IfSome o OfTwelve → debug_fits (found no_debug_log log_of o) ≡ true
     by None k = refl
     by (Some x) k =
         let top = clock-top x.before in

@@ -5,7 +5,6 @@
 #![tactic(auto)]
 
 mod answers;
-mod reading;
 
 ghost use Rattle.std.specs.Prelude.{◌≡◌, length};
 ghost use Rattle.rules.specs.Answers.{done};
@@ -18,8 +17,8 @@ ghost use Rattle.latency_monitor.specs.Answers.{as_refusal, as_completion, as_el
 ghost use Rattle.latency_monitor.specs.Reading.{read_into, read_answer};
 
 pub use answers::{PlainBelowA, PlainCompletionAnswer, PlainElapsedAnswer};
-use logpage::Reading;
-use monitor::{Command, CompletionAnswer, ElapsedAnswer, Monitor};
+use logpage::{LogPage, Reading};
+use monitor::{Command, Monitor, Outcome, WindowChoice};
 
 // A new monitor.
 #[unsafe(no_mangle)]
@@ -35,57 +34,31 @@ pub extern "C" fn latency_monitor_configure(m: &mut Monitor, s: &[u8]) -> u8
     ensures next { m.new ≡ after_settings m.old s.now }
     ensures answer { result ≡ as_refusal (settings_answer s.now) }
 {
-    let o = Monitor::configure(*m, s);
-    *m = o.next;
-    answers::refusal(o.answer)
+    let Outcome { next, answer } = m.configure(s);
+    *m = next;
+    answers::refusal(answer)
 }
 
-// A completed command. The record is stored in each arm, so that the compiled ways stay apart and write what they
-// change.
+// A completed command.
 #[unsafe(no_mangle)]
 pub extern "C" fn latency_monitor_completion(m: &mut Monitor, c: Command) -> PlainCompletionAnswer
     ensures next { m.new ≡ after_completion m.old c }
     ensures answer { result ≡ as_completion (completion_answer m.old c) }
 {
-    let o = Monitor::completion(*m, c);
-    let answer = o.answer;
-    match answer {
-        CompletionAnswer::NotCounted => {
-            *m = o.next;
-        }
-        CompletionAnswer::BelowA => {
-            *m = o.next;
-        }
-        CompletionAnswer::Counted { .. } => {
-            *m = o.next;
-        }
-        CompletionAnswer::Loaded { .. } => {
-            *m = o.next;
-        }
-    }
-    answers::completion(answer)
+    let Outcome { next, answer } = m.completion(c);
+    *m = next;
+    answer.into()
 }
 
-// Elapsed time, in ms; stored in each arm, as above.
+// Elapsed time, in ms.
 #[unsafe(no_mangle)]
 pub extern "C" fn latency_monitor_elapsed(m: &mut Monitor, ms: u32) -> PlainElapsedAnswer
     ensures next { m.new ≡ after_elapsed m.old ms }
     ensures answer { result ≡ as_elapsed (elapsed_answer m.old ms) }
 {
-    let o = Monitor::elapsed(*m, ms);
-    let answer = o.answer;
-    match answer {
-        ElapsedAnswer::Refused(_) => {
-            *m = o.next;
-        }
-        ElapsedAnswer::Active => {
-            *m = o.next;
-        }
-        ElapsedAnswer::Ended => {
-            *m = o.next;
-        }
-    }
-    answers::elapsed(answer)
+    let Outcome { next, answer } = m.elapsed(ms);
+    *m = next;
+    answer.into()
 }
 
 // The host sets the clock, in ms.
@@ -94,9 +67,9 @@ pub extern "C" fn latency_monitor_set_clock(m: &mut Monitor, value: u64) -> u8
     ensures next { m.new ≡ after_clock m.old value }
     ensures answer { result ≡ as_refusal (clock_answer value) }
 {
-    let o = Monitor::set_clock(*m, value);
-    *m = o.next;
-    answers::refusal(o.answer)
+    let Outcome { next, answer } = m.set_clock(value);
+    *m = next;
+    answers::refusal(answer)
 }
 
 // Power-up.
@@ -105,9 +78,9 @@ pub extern "C" fn latency_monitor_power_up(m: &mut Monitor) -> u8
     ensures next { m.new ≡ after_power_up m.old }
     ensures answer { result ≡ as_refusal done }
 {
-    let o = Monitor::power_up(*m);
-    *m = o.next;
-    answers::refusal(o.answer)
+    let Outcome { next, answer } = m.power_up();
+    *m = next;
+    answers::refusal(answer)
 }
 
 // Log page C3h, into a buffer of 512 bytes.
@@ -116,7 +89,7 @@ pub extern "C" fn latency_monitor_page(m: &Monitor, page: &mut [u8]) -> u8
     ensures bytes { page.new ≡ after_page m.now page.old }
     ensures answer { result ≡ as_refusal (page_answer (length page.old)) }
 {
-    answers::page(*m, page)
+    answers::refusal(m.page(page))
 }
 
 // The settings in force, into a buffer of 4,096 bytes.
@@ -125,7 +98,7 @@ pub extern "C" fn latency_monitor_settings_back(m: &Monitor, s: &mut [u8]) -> u8
     ensures bytes { s.new ≡ after_settings_back m.now s.old }
     ensures answer { result ≡ as_refusal (settings_back_answer (length s.old)) }
 {
-    answers::settings_back(*m, s)
+    answers::refusal(m.settings_back(s))
 }
 
 // The enabled completions below threshold A in the active window.
@@ -133,7 +106,7 @@ pub extern "C" fn latency_monitor_settings_back(m: &Monitor, s: &mut [u8]) -> u8
 pub extern "C" fn latency_monitor_active_below_a(m: &Monitor) -> PlainBelowA
     ensures { result ≡ as_below_a (counts_below_a Active m.now) }
 {
-    answers::active_below_a(*m)
+    m.below_a(WindowChoice::Active).into()
 }
 
 // The same in the static window.
@@ -141,7 +114,7 @@ pub extern "C" fn latency_monitor_active_below_a(m: &Monitor) -> PlainBelowA
 pub extern "C" fn latency_monitor_static_below_a(m: &Monitor) -> PlainBelowA
     ensures { result ≡ as_below_a (counts_below_a Static m.now) }
 {
-    answers::static_below_a(*m)
+    m.below_a(WindowChoice::Static).into()
 }
 
 // Why a completed command would not load a latency stamp, were it brought to the record now: the lowest reason, 1 to 6,
@@ -150,16 +123,21 @@ pub extern "C" fn latency_monitor_static_below_a(m: &Monitor) -> PlainBelowA
 pub extern "C" fn latency_monitor_reason(m: &Monitor, c: Command) -> u8
     ensures { result ≡ reason_of m.now c }
 {
-    Monitor::reason(*m, c)
+    m.reason(c).map_or(0, u8::from)
 }
 
 // A page of 512 bytes read back into its fields.
+#[tactic(auto, unfolding(crate::specs::Reading::read_into, crate::specs::Reading::read_answer, logpage::specs::Reader::reading_of))]
 #[unsafe(no_mangle)]
 pub extern "C" fn latency_monitor_read_page(fields: &mut Reading, page: &[u8]) -> u8
     ensures next { fields.new ≡ read_into fields.old page.now }
     ensures answer { result ≡ as_refusal (read_answer page.now) }
 {
-    let o = reading::read_into(*fields, page);
-    *fields = o.next;
-    answers::refusal(o.answer)
+    match LogPage::read(page) {
+        Ok(reading) => {
+            *fields = reading;
+            answers::ACCEPTED
+        }
+        Err(refusal) => u8::from(refusal),
+    }
 }
