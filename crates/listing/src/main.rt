@@ -10,7 +10,7 @@ use std::io::{Read, Write};
 // No more is needed to list an input, however long it is: `text` claims it of so many bytes (`FirstBytesSuffice`).
 const ROOM: usize = 513;
 
-// A buffer for the input.
+// A buffer for the input: its contract holds the room to what is claimed.
 fn buffer() -> [u8; ROOM]
     ensures { enough ≡ length result }
 {

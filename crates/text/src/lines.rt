@@ -11,7 +11,7 @@ pub const LINE: usize = 50;
 
 pub type Line = ArrayString<LINE>;
 
-// Appends a number in decimal.
+// Appends a number in decimal. `write!` would do it too, but its caller must reckon with an error.
 #[tactic(auto, using(crate::proofs::lines::Laws::as_printed))]
 pub(crate) fn push_decimal<const N: usize>(text: &mut ArrayString<N>, n: u64)
     requires { array_string_len text.old + 20 ≤ N }

@@ -14,7 +14,8 @@ const LINES: usize = 30;
 // Thirty lines of 38 bytes: three digits, colon, space, 32 digits, newline.
 pub type Text = ArrayString<1140>;
 
-// A hex digit, a capital from ten on, as its ASCII byte.
+// A hex digit, a capital from ten on, as its ASCII byte. By hand, since the kit's `hex` has small letters, and a caller
+// of `write!` must reckon with an error.
 #[tactic(auto, unfolding(crate::specs::Pages::hex_digit))]
 fn hex_digit(d: u8) -> u8
     requires { d < 16 }
