@@ -7,7 +7,7 @@ use Prim.Native.Nat.{ℕ, ◌+◌, ◌*◌, ◌-◌, ◌≤◌, ◌<◌}
 use native.Mathlib.Omega.{arith}
 use borrow.Author.Tests.{eqb-true, eqb-false, lt-ltb, le-ltb, leb-false, lt-leb, ltb-true, ltb-false}
 use lib.Dec.{eqb, ltb}
-use lib.ListN.{length, get_or, set, take, drop}
+use lib.ListN.{length, get_or, set, take, drop, length-set}
 use lib.Seq.{get_or-take, get_or-drop, get_or-set_same, get_or-set_other, set-get_or, take-set-le, take-set-lt, drop-set-add}
 use lib.Seq.{drop-set-lt, set_out}
 use Rattle.window.specs.Fields.{unset, window_of}
@@ -433,6 +433,36 @@ room-for-more m a next place top c is few =
 
     by : (t : Bool) → ltb c.latency (get_or a.bounds place 0) ≡ t → AtMost (top + 1) next.counts
     by true e = rw (← same_Some _ _ (rw e at is)) one
+    by false e = stamps _ (rw e at is)
+
+-- and as long lists
+abbrev pub AsLong : Active → Active → Type 0
+AsLong a next =
+    (length next.bounds ≡ length a.bounds)
+    × (length next.stamps ≡ length a.stamps)
+    × (length next.latencies ≡ length a.latencies)
+
+pub as-long :
+    (m : Monitor) (a next : Active) (place : ℕ) (c : Command) →
+    completed_by m a place c ≡ Some next →
+    AsLong a next
+unfolding completed_by
+as-long m a next place c is = by (ltb c.latency (get_or a.bounds place 0)) refl
+  where
+    stamps :
+        (o : Option Stamped) →
+        option_map (stamped_in a place (counter_at_place place)) o ≡ Some next →
+        AsLong a next
+    stamps None e = absurd (none-some next e)
+    stamps (Some l) e =
+        rw (← same_Some _ _ e) (
+          length-set a.bounds place l.bound,
+          length-set a.stamps (counter_at_place place) l.stamp.stamp,
+          length-set a.latencies (counter_at_place place) l.stamp.latency,
+        )
+
+    by : (t : Bool) → ltb c.latency (get_or a.bounds place 0) ≡ t → AsLong a next
+    by true e = rw (← same_Some _ _ (rw e at is)) (refl, refl, refl)
     by false e = stamps _ (rw e at is)
 
 -- the counter of a place is one of twelve

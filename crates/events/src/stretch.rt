@@ -20,9 +20,9 @@ pub(crate) struct Played {
     pub(crate) records: usize,
 }
 
-// A stretch so far: the monitor but for its active window, and that.
+// What a stretch keeps apart: the active window, and the monitor but for that.
 #[derive(Clone, Copy)]
-struct Stretch {
+struct Parts {
     monitor: Monitor,
     active: Active,
 }
@@ -39,7 +39,7 @@ fn timed(m: Monitor, event: Event) -> Option<Time>
     }
 }
 
-impl Stretch {
+impl Parts {
     // One record more. False where it does more than a stretch takes: then nothing is done.
     fn record(&mut self, places: &Places, r: &[u8; RECORD]) -> bool
         requires steady { Steady places.now.settings self.old }
@@ -80,15 +80,15 @@ pub(crate) fn stretch(m: Monitor, s: &[u8]) -> Played
     ensures accepted { NoneRefused s.now result.records }
 {
     let places = Places::of(m.settings);
-    let mut stretch = Stretch {
+    let mut parts = Parts {
         monitor: m,
         active: tally::active(m),
     };
     let (records, _) = s.as_chunks::<RECORD>();
     for (i, r) in records.iter().enumerate() {
-        if !stretch.record(&places, r) {
-            return stretch.end(i);
+        if !parts.record(&places, r) {
+            return parts.end(i);
         }
     }
-    stretch.end(records.len())
+    parts.end(records.len())
 }

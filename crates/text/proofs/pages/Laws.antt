@@ -3,6 +3,7 @@ use Rattle.std.proofs.Common.{cond, length-take, ◌≡◌, ℕ, zero, suc, ◌+
 use Rattle.std.proofs.lemmas.List.{take_more, drop-drop, get_or-take}
 use Rattle.std.specs.Simd.{first_chunks}
 use Rattle.endian.specs.Bytes.{any_set}
+use Rattle.endian.proofs.Chunks.{chunk-at}
 use Rattle.text.specs.Pages.{hex_digit, hex_bytes, line, shown_line, line_at, lines}
 
 -- bytes in digits behind a text: none, and one more
@@ -27,15 +28,6 @@ bytes_take text row i h = rw (take_more row i 0, bytes-append) (simp append_asso
 pub ruleset bytes_steps = (bytes_none, bytes_take)
 
 -- a row of a page, as the code finds it
-chunk-at : (xs : List ℕ) (n k i : ℕ) → i < k → get_or (first_chunks n k xs) i [] ≡ take n (drop (i * n) xs)
-chunk-at xs n (suc k) zero h =
-    let none : 0 * n ≡ 0 = omega arith in
-    rw none
-chunk-at xs n (suc k) (suc i) h =
-    let more : n + i * n ≡ suc i * n = omega arith in
-    chunk-at (drop n xs) n k i (omega arith) ∙ rw (drop-drop, more)
-chunk-at xs n zero i h = absurd (omega arith)
-
 pub row_at :
     (page : List ℕ) (n : ℕ) →
     length page ≡ 512 →

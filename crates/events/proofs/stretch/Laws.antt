@@ -1,0 +1,126 @@
+-- Laws of a stretch: one record more, and where it is before record i.
+use Rattle.std.specs.Simd.{first_chunks}
+use Rattle.endian.proofs.Chunks.{chunk-at}
+use Rattle.std.proofs.Common.{◌≡◌, ℕ, ◌+◌, ◌*◌, ◌/◌, ◌<◌, Bool, true, false, eqb, List, [], length, get_or, refl, ◌∙◌, arith, eqb-true}
+use Rattle.std.specs.Prelude.{None, Some}
+use borrow.Author.Tests.{eqb-false}
+use Rattle.rules.specs.declared.commands.Command.{Command}
+use Rattle.batch.specs.declared.parts.Time.{Time}
+use Rattle.logpage.specs.declared.fields.Settings.{Settings}
+use Rattle.monitor.specs.declared.record.Monitor.{Monitor}
+use Rattle.batch.specs.declared.parts.Active.{Active}
+use Rattle.monitor.specs.Calls.{Call, settings, completion, elapsed, clock, power_up, page, settings_back, below_a}
+use Rattle.monitor.specs.Calls.{play_from}
+use Rattle.batch.specs.Passing.{passed_by, clocked_by, time_by, with_time}
+use Rattle.batch.specs.Tally.{count_place, AtMost, bound_for, bound_at, completed_by, with_active}
+use Rattle.batch.proofs.Alone.{time-alone}
+use Rattle.batch.proofs.Counts.{as-long, completes-alone}
+use Rattle.records.specs.Records.{call_of, record_refusal, after_record}
+use Rattle.events.specs.declared.stretch.Parts.{Parts}
+use Rattle.events.specs.Files.{record_at, whole_records, NoneRefused}
+use Rattle.events.specs.Stretch.{Steady, so_far}
+use Rattle.events.proofs.files.Laws.{Replayed, one_more}
+
+-- time takes nothing from the active window
+same-time : (m : Monitor) (a : Active) (c : Call) → time_by m c ≡ time_by (with_active m a) c
+unfolding passed_by clocked_by
+same-time m a (settings s) = refl
+same-time m a (completion c) = refl
+same-time m a (elapsed ms) = refl
+same-time m a (clock value) = refl
+same-time m a power_up = refl
+same-time m a (page n) = refl
+same-time m a (settings_back n) = refl
+same-time m a (below_a w) = refl
+
+-- a record that a stretch takes
+pub record Taken (s : Settings) (x next : Parts) (r : List ℕ) : Type 0 where
+  pub steady : Steady s next
+  pub accepted : record_refusal r ≡ None
+  pub same : so_far next ≡ after_record (so_far x) r
+
+module _ (s : Settings) (x : Parts) (steady : Steady s x) (r : List ℕ) where
+  -- a completion, at its place
+  pub completed :
+      (c : Command) (next : Active) →
+      call_of r ≡ Some (completion c) →
+      completed_by x.monitor x.active (count_place s c) c ≡ Some next →
+      Taken s x (record { monitor = x.monitor; active = next }) r
+  unfolding after_record record_refusal play_from
+  completed c next call is =
+      let sizes = steady.sizes in
+      let rule =
+      completes-alone x.monitor x.active next c (rw steady.in_force at is) steady.bounds sizes.0 sizes.1 sizes.2
+      in
+      let long = as-long x.monitor x.active next (count_place s c) c is in
+      record {
+        steady =
+            record {
+              in_force = steady.in_force;
+              bounds = rule.1;
+              sizes = (long.0 ∙ sizes.0, long.1 ∙ sizes.1, long.2 ∙ sizes.2);
+            };
+        accepted = rw call;
+        same = rw call rule.0;
+      }
+
+  -- the clock and the timer alone
+  pub timed :
+      (c : Call) (t : Time) →
+      call_of r ≡ Some c →
+      time_by x.monitor c ≡ Some t →
+      Taken s x (record { monitor = with_time x.monitor t; active = x.active }) r
+  unfolding after_record record_refusal play_from bound_at bound_for
+  timed c t call is =
+      let rule = time-alone (so_far x) c t (rw (same-time x.monitor x.active c) at is) in
+      record {
+        steady = record { in_force = steady.in_force; bounds = steady.bounds; sizes = steady.sizes };
+        accepted = rw call rule.1;
+        same = rw call rule.0;
+      }
+
+-- where a stretch is, before record i: none before it was refused, and the counts have room
+pub record Stretched (m : Monitor) (s : List ℕ) (inside : Settings) (x : Parts) (i : ℕ) : Type 0 where
+  pub steady : Steady inside x
+  pub room : AtMost (4294967295 + i) x.active.counts
+  pub accepted : NoneRefused s i
+  pub played : Replayed m s (so_far x) i
+
+-- one record more that nothing turns away
+accepted-more :
+    (s : List ℕ) (i : ℕ) → NoneRefused s i → record_refusal (record_at s i) ≡ None → NoneRefused s (i + 1)
+accepted-more s i before here j h = by (eqb j i) refl
+  where
+    by : (t : Bool) → eqb j i ≡ t → record_refusal (record_at s j) ≡ None
+    by true e = let same : j ≡ i = eqb-true j i e in rw same here
+    by false e = let other = eqb-false j i e in before j (by_cases other)
+      where
+        by_cases : (j ≡ i → ⊥) → j < i
+        by_cases other = omega arith
+
+pub taken :
+    (m : Monitor) (s : List ℕ) (inside : Settings) (x next : Parts) (i : ℕ) (r : List ℕ) →
+    Stretched m s inside x i →
+    r ≡ record_at s i →
+    i < whole_records s →
+    Steady inside next →
+    AtMost (4294967295 + i + 1) next.active.counts →
+    record_refusal r ≡ None →
+    so_far next ≡ after_record (so_far x) r →
+    Stretched m s inside next (i + 1)
+taken m s inside x next i r at here more steady room accepted same =
+    record {
+      steady = steady;
+      room = λ place. omega (arith, room place);
+      accepted = accepted-more s i at.accepted (rw here at accepted);
+      played = one_more m s _ _ i r at.played here same more;
+    }
+
+-- the chunks of a file are its records
+pub chunk :
+    (s : List ℕ) (i : ℕ) →
+    i < whole_records s →
+    get_or (first_chunks 16 (length s / 16) s) i [] ≡ record_at s i
+chunk s i h =
+    let place : i * 16 ≡ 16 * i = omega arith in
+    rw place at (chunk-at s 16 (length s / 16) i h)
