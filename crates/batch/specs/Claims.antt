@@ -64,3 +64,11 @@ CompletesAlone =
     length a.stamps ≡ 12 →
     length a.latencies ≡ 12 →
     (with_active m next ≡ after_completion (with_active m a) c) × Bounds (with_active m next) next.bounds
+
+-- and a call that changes the clock and the timer alone does so beside an active window that is kept apart
+abbrev pub TimeApart : Type 0
+TimeApart =
+    (m : Monitor) (a : Active) (c : Call) (t : Time) →
+    time_by m c ≡ Some t →
+    Bounds (with_active m a) a.bounds →
+    Alone (with_active m a) c t × Bounds (with_active (with_time m t) a) a.bounds
