@@ -65,4 +65,7 @@ same-time m a (below_a w) = refl
 
 pub time-apart : TimeApart
 unfolding bound_at bound_for
-time-apart m a c t e before = (time-alone (with_active m a) c t (sym (same-time m a c) ∙ e), before)
+time-apart m a c t apart e = (
+  time-alone (with_active m a) c t (sym (same-time m a c) ∙ e),
+  record { bounds = apart.bounds; places = apart.places; stamps = apart.stamps; latencies = apart.latencies },
+)
