@@ -7,7 +7,7 @@ use Prim.Native.Nat.{ℕ, ◌+◌, ◌*◌, ◌-◌, ◌≤◌, ◌<◌}
 use native.Mathlib.Omega.{arith}
 use borrow.Author.Tests.{eqb-true, eqb-false, lt-ltb, le-ltb, leb-false, lt-leb, ltb-true, ltb-false}
 use lib.Dec.{eqb, ltb}
-use lib.ListN.{length, get_or, set, take, drop, length-set}
+use lib.ListN.{length, length-set, get_or, set, take, drop}
 use lib.Seq.{get_or-take, get_or-drop, get_or-set_same, get_or-set_other, set-get_or, take-set-le, take-set-lt, drop-set-add}
 use lib.Seq.{drop-set-lt, set_out}
 use Rattle.window.specs.Fields.{unset, window_of}
@@ -26,8 +26,8 @@ use Rattle.batch.specs.declared.parts.Stamped.{Stamped}
 use Rattle.std.proofs.lemmas.Option.{cond_some, none-some, same_Some}
 use Rattle.batch.specs.Tally.{bucket_place, kind_place, count_place, held_all, counter_at_place, bound_for, counter_bound}
 use Rattle.batch.specs.Tally.{AtMost, bound_at, Bounds, at_most_loads, stamp_at, stamped_by, with_active}
-use Rattle.batch.specs.Tally.{one_more_at, with_counts, stamped_in, completed_by}
-use Rattle.batch.specs.Claims.{CountsAlone, StampsAlone, BoundsFollow, CompletesAlone}
+use Rattle.batch.specs.Tally.{one_more_at, with_counts, stamped_in, completed_by, Apart}
+use Rattle.batch.specs.Claims.{CountsAlone, Stamps, StampsAlone, BoundsFollow, CompletesApart}
 use Rattle.batch.proofs.tally.Laws.{bucket_place_few, kindless-place, held_at, held-set, has-counter}
 use Rattle.rules.proofs.commands.Laws.{Becomes, slow, fast, kindless, disabled, becomes}
 use Rattle.rules.proofs.commands.Laws.{below-latency-above}
@@ -365,51 +365,52 @@ stamps-alone m a c p n l s = stamped-alone m a c p n l s.0 s.1 s.2
 pub bounds-follow : BoundsFollow
 bounds-follow m a c p n l s = stamped-bounds m a c p n l s.0 s.1 s.2
 
--- both together
-module _
-    (m : Monitor)
-    (a next : Active)
-    (c : Command)
-    (before : Bounds (with_active m a) a.bounds)
-    (all : length a.bounds ≡ 28)
-    (twelve : length a.stamps ≡ 12)
-    (as_many : length a.latencies ≡ 12)
-  where
-    abbrev its-place : ℕ
-    its-place = count_place m.settings c
+-- both together, of an active window that is kept apart
+module _ (m : Monitor) (a next : Active) (c : Command) (apart : Apart m a) where
+  abbrev place : ℕ
+  place = count_place m.settings c
 
-    abbrev Follows : Type 0
-    Follows = (with_active m next ≡ after_completion (with_active m a) c) × Bounds (with_active m next) next.bounds
+  abbrev Follows : Active → Type 0
+  Follows next = (with_active m next ≡ after_completion (with_active m a) c) × Apart m next
 
-    counted : ltb c.latency (get_or a.bounds its-place 0) ≡ true → with_counts a (one_more_at a.counts its-place) ≡ next → Follows
-    unfolding bound_at bound_for
-    counted lower is =
-        let below : its-place < 15 → c.latency < bound_at (with_active m a) its-place =
-        λ h. rw (before its-place h) at (ltb-true _ _ lower)
-        in
-        rw (← is) (counts_alone m a c its-place refl below, before)
+  counted : ltb c.latency (get_or a.bounds place 0) ≡ true → Follows (with_counts a (one_more_at a.counts place))
+  unfolding bound_at bound_for
+  counted lower =
+      let below : place < 15 → c.latency < bound_at (with_active m a) place =
+      λ h. rw (apart.bounds place h) at (ltb-true _ _ lower)
+      in (
+        counts_alone m a c place refl below,
+        record { bounds = apart.bounds; places = apart.places; stamps = apart.stamps; latencies = apart.latencies },
+      )
 
-    loaded :
-        (o : Option Stamped) →
-        stamped_by m its-place c (stamp_at a (counter_at_place its-place)) ≡ o →
-        option_map (stamped_in a its-place (counter_at_place its-place)) o ≡ Some next →
-        Follows
-    loaded None e is = absurd (none-some next is)
-    loaded (Some l) e is =
-        let same : stamped_in a its-place (counter_at_place its-place) l ≡ next = same_Some _ _ is in
-        rw (← same)
-        (stamps-alone m a c its-place _ l (refl, refl, e), bounds-follow m a c its-place _ l (refl, refl, e) before all twelve as_many)
+  loaded : (n : ℕ) (l : Stamped) → Stamps m a c place n l → Follows (stamped_in a place n l)
+  loaded n l stamps = (
+    stamps-alone m a c place n l stamps,
+    record {
+      bounds = bounds-follow m a c place n l stamps apart.bounds apart.places apart.stamps apart.latencies;
+      places = length-set a.bounds place l.bound ∙ apart.places;
+      stamps = length-set a.stamps n l.stamp.stamp ∙ apart.stamps;
+      latencies = length-set a.latencies n l.stamp.latency ∙ apart.latencies;
+    },
+  )
 
-    completes : completed_by m a its-place c ≡ Some next → Follows
-    unfolding completed_by
-    completes is = by (ltb c.latency (get_or a.bounds its-place 0)) refl
-      where
-        by : (t : Bool) → ltb c.latency (get_or a.bounds its-place 0) ≡ t → Follows
-        by true e = counted e (same_Some _ _ (rw e at is))
-        by false e = loaded _ refl (rw e at is)
+  completes : completed_by m a place c ≡ Some next → Follows next
+  unfolding completed_by
+  completes is = by (ltb c.latency (get_or a.bounds place 0)) refl
+    where
+      n : ℕ
+      n = counter_at_place place
 
-pub completes-alone : CompletesAlone
-completes-alone m a next c is before all twelve as_many = completes m a next c before all twelve as_many is
+      stamped : (o : Option Stamped) → stamped_by m place c (stamp_at a n) ≡ o → option_map (stamped_in a place n) o ≡ Some next → Follows next
+      stamped None e same = absurd (none-some next same)
+      stamped (Some l) e same = rw (← same_Some _ _ same) (loaded n l (refl, refl, e))
+
+      by : (t : Bool) → ltb c.latency (get_or a.bounds place 0) ≡ t → Follows next
+      by true e = rw (← same_Some _ _ (rw e at is)) (counted e)
+      by false e = stamped _ refl (rw e at is)
+
+pub completes-apart : CompletesApart
+completes-apart m a next c apart is = completes m a next c apart is
 
 -- a count more
 pub room-for-more :
@@ -433,36 +434,6 @@ room-for-more m a next place top c is few =
 
     by : (t : Bool) → ltb c.latency (get_or a.bounds place 0) ≡ t → AtMost (top + 1) next.counts
     by true e = rw (← same_Some _ _ (rw e at is)) one
-    by false e = stamps _ (rw e at is)
-
--- and as long lists
-abbrev pub AsLong : Active → Active → Type 0
-AsLong a next =
-    (length next.bounds ≡ length a.bounds)
-    × (length next.stamps ≡ length a.stamps)
-    × (length next.latencies ≡ length a.latencies)
-
-pub as-long :
-    (m : Monitor) (a next : Active) (place : ℕ) (c : Command) →
-    completed_by m a place c ≡ Some next →
-    AsLong a next
-unfolding completed_by
-as-long m a next place c is = by (ltb c.latency (get_or a.bounds place 0)) refl
-  where
-    stamps :
-        (o : Option Stamped) →
-        option_map (stamped_in a place (counter_at_place place)) o ≡ Some next →
-        AsLong a next
-    stamps None e = absurd (none-some next e)
-    stamps (Some l) e =
-        rw (← same_Some _ _ e) (
-          length-set a.bounds place l.bound,
-          length-set a.stamps (counter_at_place place) l.stamp.stamp,
-          length-set a.latencies (counter_at_place place) l.stamp.latency,
-        )
-
-    by : (t : Bool) → ltb c.latency (get_or a.bounds place 0) ≡ t → AsLong a next
-    by true e = rw (← same_Some _ _ (rw e at is)) (refl, refl, refl)
     by false e = stamps _ (rw e at is)
 
 -- the counter of a place is one of twelve

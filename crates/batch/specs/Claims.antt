@@ -11,7 +11,7 @@ use Rattle.batch.specs.declared.parts.Stamped.{Stamped}
 use Rattle.batch.specs.declared.parts.Time.{Time}
 use Rattle.batch.specs.Passing.{time_by, with_time}
 use Rattle.batch.specs.Tally.{count_place, counter_at_place, bound_at, Bounds, one_more_at, with_counts, stamp_at, stamped_by}
-use Rattle.batch.specs.Tally.{stamped_in, completed_by, with_active}
+use Rattle.batch.specs.Tally.{stamped_in, completed_by, with_active, Apart}
 
 -- the clock and the timer that a call leaves are all that its own rule changes, and nothing turns it away
 abbrev pub Alone : Monitor → Call → Time → Type 0
@@ -54,13 +54,18 @@ BoundsFollow =
     length a.latencies ≡ 12 →
     Bounds (with_active m (stamped_in a p n l)) (set a.bounds p l.bound)
 
--- so what a completion is said to leave of the active window is what its own rule leaves, and the bounds follow
-abbrev pub CompletesAlone : Type 0
-CompletesAlone =
+-- so what a completion is said to leave of an active window that is kept apart is what its own rule leaves
+abbrev pub CompletesApart : Type 0
+CompletesApart =
     (m : Monitor) (a next : Active) (c : Command) →
+    Apart m a →
     completed_by m a (count_place m.settings c) c ≡ Some next →
-    Bounds (with_active m a) a.bounds →
-    length a.bounds ≡ 28 →
-    length a.stamps ≡ 12 →
-    length a.latencies ≡ 12 →
-    (with_active m next ≡ after_completion (with_active m a) c) × Bounds (with_active m next) next.bounds
+    (with_active m next ≡ after_completion (with_active m a) c) × Apart m next
+
+-- and a call that changes the clock and the timer alone does so beside it
+abbrev pub TimeApart : Type 0
+TimeApart =
+    (m : Monitor) (a : Active) (c : Call) (t : Time) →
+    Apart m a →
+    time_by m c ≡ Some t →
+    Alone (with_active m a) c t × Apart (with_time m t) a

@@ -1,7 +1,7 @@
 -- The active window, taken out of the record for a loop over many completions. Its counts stand in one list: counter
 -- n's at place n, and those below threshold A, by kind, at 12 to 14. A place from 15 on is that of no count. Counts go
 -- on past their top, where the record holds them.
-use Rattle.std.specs.Prelude.{Bool, false, cond, not, ◌&&◌, ◌||◌, List, map, ◌≡◌, ℕ, ◌+◌, ◌-◌, ◌*◌, ◌<◌, ◌≤◌, eqb, ltb, get_or, set, take, drop}
+use Rattle.std.specs.Prelude.{Bool, false, cond, not, ◌&&◌, ◌||◌, List, map, length, ◌≡◌, ℕ, ◌+◌, ◌-◌, ◌*◌, ◌<◌, ◌≤◌, eqb, ltb, get_or, set, take, drop}
 use Rattle.std.specs.Prelude.{Option, None, Some, unwrap_or, option_map}
 use Rattle.window.specs.Fields.{unset, window_of}
 use Rattle.logpage.specs.declared.fields.Settings.{Settings}
@@ -140,3 +140,10 @@ with_active m a =
     with_active_window m (window_of (take 12 (held_all a.counts)) a.stamps a.latencies a.units)
     a.loaded
     (take 3 (drop 12 (held_all a.counts)))
+
+-- an active window that is kept apart from a record: its bounds are those of the record with it
+pub record Apart (m : Monitor) (a : Active) : Type 0 where
+  pub bounds : Bounds (with_active m a) a.bounds
+  pub places : length a.bounds ≡ 28
+  pub stamps : length a.stamps ≡ 12
+  pub latencies : length a.latencies ≡ 12

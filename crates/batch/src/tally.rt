@@ -5,7 +5,7 @@ ghost use Rattle.std.specs.Prelude.{◌≡◌, ◌<◌, false, take, drop};
 ghost use Rattle.monitor.specs.Calls.{only_if};
 ghost use Rattle.rules.specs.Counting.{held};
 ghost use Rattle.batch.specs.Tally.{bucket_place, code_of, kind_place, KindPlaces, held_all, AtMost, counter_at_place};
-ghost use Rattle.batch.specs.Tally.{bound_for, Bounds, at_most_loads, stamp_at, stamped_by, completed_by, with_active};
+ghost use Rattle.batch.specs.Tally.{bound_for, Bounds, at_most_loads, stamp_at, stamped_by, completed_by, with_active, Apart};
 ghost use Rattle.batch.specs.Tally.{count_place};
 
 use crate::parts::{Active, Stamp, Stamped};
@@ -143,7 +143,7 @@ fn bounds(m: Monitor) -> [u32; 28]
 // The active window.
 pub fn active(m: Monitor) -> Active
     ensures window { with_active m result ≡ m }
-    ensures bounds { Bounds m result.bounds }
+    ensures apart { Apart m result }
     ensures top { AtMost u32.MAX result.counts }
 {
     let below_a = m.active_below_a;
