@@ -1,7 +1,7 @@
 -- Laws of a stretch: one record more, and where it is before record i.
 use Rattle.std.specs.Simd.{first_chunks}
 use Rattle.endian.proofs.Chunks.{chunk-at}
-use Rattle.std.proofs.Common.{◌≡◌, ℕ, ◌+◌, ◌*◌, ◌/◌, ◌<◌, Bool, true, false, eqb, List, [], length, get_or, refl, ◌∙◌, arith, eqb-true}
+use Rattle.std.proofs.Common.{◌≡◌, ℕ, ◌+◌, ◌*◌, ◌/◌, ◌<◌, Bool, true, false, eqb, List, [], length, get_or, refl, arith, eqb-true}
 use Rattle.std.specs.Prelude.{None, Some}
 use borrow.Author.Tests.{eqb-false}
 use Rattle.rules.specs.declared.commands.Command.{Command}
@@ -9,29 +9,17 @@ use Rattle.batch.specs.declared.parts.Time.{Time}
 use Rattle.logpage.specs.declared.fields.Settings.{Settings}
 use Rattle.monitor.specs.declared.record.Monitor.{Monitor}
 use Rattle.batch.specs.declared.parts.Active.{Active}
-use Rattle.monitor.specs.Calls.{Call, settings, completion, elapsed, clock, power_up, page, settings_back, below_a}
+use Rattle.monitor.specs.Calls.{Call, completion}
 use Rattle.monitor.specs.Calls.{play_from}
-use Rattle.batch.specs.Passing.{passed_by, clocked_by, time_by, with_time}
-use Rattle.batch.specs.Tally.{count_place, AtMost, bound_for, bound_at, completed_by, with_active}
-use Rattle.batch.proofs.Alone.{time-alone}
-use Rattle.batch.proofs.Counts.{as-long, completes-alone}
+use Rattle.batch.specs.Passing.{time_by, with_time}
+use Rattle.batch.specs.Tally.{count_place, AtMost, completed_by}
+use Rattle.batch.proofs.Alone.{time-apart}
+use Rattle.batch.proofs.Counts.{completes-apart}
 use Rattle.records.specs.Records.{call_of, record_refusal, after_record}
 use Rattle.events.specs.declared.stretch.Parts.{Parts}
 use Rattle.events.specs.Files.{record_at, whole_records, NoneRefused}
 use Rattle.events.specs.Stretch.{Steady, so_far}
 use Rattle.events.proofs.files.Laws.{Replayed, one_more}
-
--- time takes nothing from the active window
-same-time : (m : Monitor) (a : Active) (c : Call) → time_by m c ≡ time_by (with_active m a) c
-unfolding passed_by clocked_by
-same-time m a (settings s) = refl
-same-time m a (completion c) = refl
-same-time m a (elapsed ms) = refl
-same-time m a (clock value) = refl
-same-time m a power_up = refl
-same-time m a (page n) = refl
-same-time m a (settings_back n) = refl
-same-time m a (below_a w) = refl
 
 -- a record that a stretch takes
 pub record Taken (s : Settings) (x next : Parts) (r : List ℕ) : Type 0 where
@@ -48,18 +36,9 @@ module _ (s : Settings) (x : Parts) (steady : Steady s x) (r : List ℕ) where
       Taken s x (record { monitor = x.monitor; active = next }) r
   unfolding after_record record_refusal play_from
   completed c next call is =
-      let sizes = steady.sizes in
-      let rule =
-      completes-alone x.monitor x.active next c (rw steady.in_force at is) steady.bounds sizes.0 sizes.1 sizes.2
-      in
-      let long = as-long x.monitor x.active next (count_place s c) c is in
+      let rule = completes-apart x.monitor x.active next c steady.apart (rw steady.in_force at is) in
       record {
-        steady =
-            record {
-              in_force = steady.in_force;
-              bounds = rule.1;
-              sizes = (long.0 ∙ sizes.0, long.1 ∙ sizes.1, long.2 ∙ sizes.2);
-            };
+        steady = record { in_force = steady.in_force; apart = rule.1 };
         accepted = rw call;
         same = rw call rule.0;
       }
@@ -70,13 +49,13 @@ module _ (s : Settings) (x : Parts) (steady : Steady s x) (r : List ℕ) where
       call_of r ≡ Some c →
       time_by x.monitor c ≡ Some t →
       Taken s x (record { monitor = with_time x.monitor t; active = x.active }) r
-  unfolding after_record record_refusal play_from bound_at bound_for
+  unfolding after_record record_refusal play_from
   timed c t call is =
-      let rule = time-alone (so_far x) c t (rw (same-time x.monitor x.active c) at is) in
+      let rule = time-apart x.monitor x.active c t steady.apart is in
       record {
-        steady = record { in_force = steady.in_force; bounds = steady.bounds; sizes = steady.sizes };
-        accepted = rw call rule.1;
-        same = rw call rule.0;
+        steady = record { in_force = steady.in_force; apart = rule.1 };
+        accepted = rw call rule.0.1;
+        same = rw call rule.0.0;
       }
 
 -- where a stretch is, before record i: none before it was refused, and the counts have room

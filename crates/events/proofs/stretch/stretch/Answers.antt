@@ -12,8 +12,7 @@ loop-i-init c =
       steady =
           record {
             in_force = c.of-places.ensures;
-            bounds = rw c.active.ensures.window c.active.ensures.bounds;
-            sizes = (search rules, search rules, search rules);
+            apart = c.active.ensures.apart;
           };
       room = λ place. omega (arith, c.active.ensures.top place);
       accepted = λ j h. absurd (omega arith);
