@@ -2,7 +2,7 @@
 use mathlib.Core.Path.{◌≡◌, refl, sym, ap, ◌∙◌}
 use mathlib.Core.Bool.{Bool, true, false, cond, true≢false, ◌||◌}
 use mathlib.Core.List.{List}
-use mathlib.Core.Option.{Option, none, some}
+use Rattle.std.specs.Prelude.{Option, None, Some}
 use Prim.Native.Nat.{ℕ, zero, suc, ◌+◌, ◌*◌, ◌-◌, ◌≤◌, ◌<◌}
 use native.Mathlib.Omega.{arith}
 use borrow.Author.Tests.{eqb-true, eqb-false, lt-ltb, le-ltb, leb-false, lt-leb, ltb-true, ltb-false}
@@ -63,8 +63,8 @@ pub three-at-most :
     c ≤ top →
     AtMost top (set (set (set (replicate 28 0) 12 a) 13 b) 14 c)
 three-at-most {top} a b c first second third =
-    let none = no-count top 28 in
-    let one = at-most-set (replicate 28 0) 12 a none (omega arith) first in
+    let None = no-count top 28 in
+    let one = at-most-set (replicate 28 0) 12 a None (omega arith) first in
     let two = at-most-set (set (replicate 28 0) 12 a) 13 b one (omega arith) second in
     at-most-set (set (set (replicate 28 0) 12 a) 13 b) 14 c two (omega arith) third
 
@@ -82,7 +82,7 @@ below-a-bucket :
     (thresholds : List ℕ) (c : Command) →
     unordered thresholds ≡ false →
     reaches_a thresholds c ≡ false →
-    bucket_of thresholds c ≡ none
+    bucket_of thresholds c ≡ None
 unfolding bucket_of highest
 below-a-bucket thresholds c in_order a =
     let first = neither (ltb (get_or thresholds 1 0) (get_or thresholds 0 0)) _ in_order in
@@ -96,16 +96,16 @@ below-a-bucket thresholds c in_order a =
 bucket-is :
     (s : Settings) (c : Command) (b k : ℕ) →
     s.enabled ≡ true →
-    kind_of c ≡ some k →
-    counter_of s c ≡ some (3 * b + k) →
-    bucket_of s.thresholds c ≡ some b
+    kind_of c ≡ Some k →
+    counter_of s c ≡ Some (3 * b + k) →
+    bucket_of s.thresholds c ≡ Some b
 unfolding counter_of
 bucket-is s c b k on kind e = by (reaches_a s.thresholds c) (bucket_of s.thresholds c) (rw (on, kind) at e)
   where
-    by : (a : Bool) (o : Option ℕ) → cond a (counter_at o (some k)) none ≡ some (3 * b + k) → o ≡ some b
+    by : (a : Bool) (o : Option ℕ) → cond a (counter_at o (Some k)) None ≡ Some (3 * b + k) → o ≡ Some b
     by false o e = let never : ◌≡◌ {A = ℕ} 0 1 = cc in absurd (omega arith)
-    by true none e = let never : ◌≡◌ {A = ℕ} 0 1 = cc in absurd (omega arith)
-    by true (some x) e =
+    by true None e = let never : ◌≡◌ {A = ℕ} 0 1 = cc in absurd (omega arith)
+    by true (Some x) e =
         let same : 3 * x + k ≡ 3 * b + k = cc in
         let bucket : x ≡ b = omega arith in
         rw bucket
@@ -123,12 +123,12 @@ kind-place-is :
     (s : Settings) (c : Command) (k : ℕ) →
     k < 3 →
     s.enabled ≡ true →
-    kind_of c ≡ some k →
+    kind_of c ≡ Some k →
     kind_place s.enabled c ≡ k
 unfolding kind_place
 kind-place-is s c k few on kind = rw (on, kind, lt-ltb k 3 few)
 
-pub kindless-place : (enabled : Bool) (c : Command) → kind_of c ≡ none → kind_place enabled c ≡ 15
+pub kindless-place : (enabled : Bool) (c : Command) → kind_of c ≡ None → kind_place enabled c ≡ 15
 unfolding kind_place
 kindless-place true c kind = rw kind
 kindless-place false c kind = refl
@@ -183,9 +183,9 @@ module _ (t : List ℕ) where
 
 -- where a completion counts, by its place
 data Placed (s : Settings) (c : Command) (p : ℕ) : Type 0 where
-  for-counter : p < 12 → counter_of s c ≡ some p → Placed s c p
-  below : (k : ℕ) → k < 3 → p ≡ 12 + k → counter_of s c ≡ none → below_a_of s c ≡ some k → Placed s c p
-  nowhere : 15 ≤ p → counter_of s c ≡ none → below_a_of s c ≡ none → Placed s c p
+  for-counter : p < 12 → counter_of s c ≡ Some p → Placed s c p
+  below : (k : ℕ) → k < 3 → p ≡ 12 + k → counter_of s c ≡ None → below_a_of s c ≡ Some k → Placed s c p
+  nowhere : 15 ≤ p → counter_of s c ≡ None → below_a_of s c ≡ None → Placed s c p
 
 placed :
     (s : Settings) (c : Command) (p : ℕ) →

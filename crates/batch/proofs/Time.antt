@@ -1,6 +1,6 @@
 -- Calls that change the clock and the timer alone.
 use mathlib.Core.Bool.{true, true≢false}
-use mathlib.Core.Option.{Option, none, some}
+use Rattle.std.specs.Prelude.{Option, None, Some}
 use mathlib.Core.Path.{◌≡◌, refl, sym}
 use Prim.Native.Nat.{ℕ}
 use borrow.Author.Tests.{not-true}
@@ -18,8 +18,8 @@ module _ (m : Monitor) where
   elapsed-alone ms e = by (elapsed_refusal ms) refl
     where
       by : (o : Option ℕ) → elapsed_refusal ms ≡ o → Alone m (elapsed ms)
-      by (some n) refused = absurd (true≢false (sym (rw refused at e)))
-      by none accepted =
+      by (Some n) refused = absurd (true≢false (sym (rw refused at e)))
+      by None accepted =
           let t = ticked m.settings.enabled m.settings.timer_threshold m.timer m.partial ms in
           (rw (accepted, not-true t.expired (rw accepted at e)), accepted)
 
@@ -28,8 +28,8 @@ module _ (m : Monitor) where
   clock-alone value e = by (clock_refusal value) refl
     where
       by : (o : Option ℕ) → clock_refusal value ≡ o → Alone m (clock value)
-      by (some n) refused = absurd (true≢false (sym (rw refused at e)))
-      by none accepted = (rw accepted, accepted)
+      by (Some n) refused = absurd (true≢false (sym (rw refused at e)))
+      by None accepted = (rw accepted, accepted)
 
   alone : (c : Call) → (time_by m c).alone ≡ true → Alone m c
   unfolding after_power_up

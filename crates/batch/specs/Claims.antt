@@ -1,7 +1,7 @@
 -- How the quick way is tied to the rules. No promise to a buyer rests on this crate: what an event file makes of a
 -- monitor is promised by the calls' own definitions, and these claims are what the proof of that goes by.
 use Rattle.std.specs.Prelude.{true, false, List, ◌≡◌, ℕ, ◌+◌, ◌<◌, length, get_or, set}
-use Rattle.std.proofs.Math.Option.{none}
+use Rattle.std.specs.Prelude.{None}
 use Rattle.rules.specs.declared.commands.Command.{Command}
 use Rattle.monitor.specs.declared.record.Monitor.{Monitor}
 use Rattle.monitor.specs.Calls.{Call, after, refusal_of}
@@ -13,7 +13,7 @@ use Rattle.batch.specs.Tally.{count_place, counter_at_place, bound_at, Bounds, s
 
 -- the clock and the timer that a call leaves are all that its own rule changes, and nothing turns it away
 abbrev pub Alone : Monitor → Call → Type 0
-Alone m c = (with_time m (time_by m c) ≡ after c m) × (refusal_of c ≡ none)
+Alone m c = (with_time m (time_by m c) ≡ after c m) × (refusal_of c ≡ None)
 
 -- a call that is said to change the clock and the timer alone does so
 abbrev pub TimeAlone : Type 0

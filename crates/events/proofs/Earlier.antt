@@ -1,6 +1,6 @@
 -- The completions of earlier releases, and their files.
-use Rattle.std.proofs.Common.{◌≡◌, ℕ, zero, suc, ◌≤◌, Bool, true, false, cond, not, ◌||◌, eqb, leb, List, length, refl, arith, drop-cons, eqb-true}
-use mathlib.Core.Option.{Option, none, some}
+use Rattle.std.proofs.Common.{◌≡◌, ℕ, zero, suc, ◌≤◌, Bool, true, false, cond, not, ◌||◌, eqb, leb, List, length, refl, ◌∙◌, arith, drop-cons, eqb-true}
+use Rattle.std.specs.Prelude.{Option, None, Some}
 use Rattle.endian.specs.Bytes.{any_set}
 use Rattle.monitor.specs.Calls.{Call, settings, completion, elapsed, clock, power_up, History, and_then, attribute_in}
 use Rattle.monitor.specs.Calls.{WithoutAttribute}
@@ -8,7 +8,7 @@ use Rattle.events.specs.Claims.{EarlierCompletions, EarlierFiles}
 use Rattle.records.specs.Records.{record_kind, attribute, unnamed, settings_bytes, command_of, completion_of, elapsed_of}
 use Rattle.records.specs.Records.{clock_of, call_of_kind, call_of}
 use Rattle.events.specs.Files.{record_at, whole_records, calls_before, history_of}
-use Rattle.records.proofs.Laws.{known-call}
+use Rattle.records.proofs.Laws.{of-sixteen}
 
 -- a byte and those behind it are clear
 clear : (b : ℕ) (rest : Bool) → (not (eqb b 0) || rest) ≡ false → (b ≡ 0) × (rest ≡ false)
@@ -24,19 +24,19 @@ earlier-completions r sixteen kind none-set =
     let two = drop-cons r 2 0 (omega arith) in
     let three = drop-cons r 3 0 (omega arith) in
     let c = clear (attribute r) _ (rw (two, three) at none-set) in
-    let rest : true ≡ not (any_set (unnamed 3 4 8 r)) = rw (three, c.1) in
-    rw c.0 at (known-call r sixteen 2 (unnamed 3 4 8 r) (completion (command_of r)) (rw c.0) kind rest)
+    let rest : any_set (unnamed 3 4 8 r) ≡ false = rw (three, c.1) in
+    of-sixteen r sixteen ∙ rw (kind, c.0, rest)
 
 -- a record's call, if there is one, has no attribute
 data Without : Option Call → Type 0 where
-  no_call : Without none
-  without : {call : Call} → attribute_in call ≡ false → Without (some call)
+  no_call : Without None
+  without : {call : Call} → attribute_in call ≡ false → Without (Some call)
 
 either : (t : Bool) {x y : Option Call} → (t ≡ true → Without x) → Without y → Without (cond t x y)
 either true p q = p refl
 either false p q = q
 
-if-clear : (bytes : List ℕ) (call : Call) → attribute_in call ≡ false → Without (cond (any_set bytes) none (some call))
+if-clear : (bytes : List ℕ) (call : Call) → attribute_in call ≡ false → Without (cond (any_set bytes) None (Some call))
 if-clear bytes call p = either (any_set bytes) (λ _. no_call) (without p)
 
 without-call : (r : List ℕ) → (record_kind r ≡ 2 → attribute r ≡ 0) → Without (call_of r)

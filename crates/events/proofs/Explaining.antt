@@ -1,6 +1,7 @@
 -- What is said of a record: by a file in parts, and with the refused records skipped.
 use Rattle.std.proofs.Common.{◌≡◌, ℕ, zero, suc, ◌+◌, ◌-◌, ◌*◌, ◌%◌, ◌<◌, ◌≤◌, Bool, true, false, ltb, List, [], ◌∷◌, ◌++◌, length, take, drop, sym, refl, ap, ◌∙◌, true≢false, append-nil, arith, length-append, take-append-drop, length-take, take_all, ltb-false, ltb-true, le-ltb, lt-ltb}
-use mathlib.Core.Option.{Option, none, some, some-ne-none}
+use Rattle.std.specs.Prelude.{Option, None, Some}
+use Rattle.monitor.proofs.Laws.{nothing-there}
 use lib.Seq.{take-append-le, take-append-add}
 use Rattle.monitor.specs.declared.record.Monitor.{Monitor}
 use Rattle.monitor.specs.Calls.{found, and_then, or_else, play_from}
@@ -74,22 +75,22 @@ two-parts q s t e = by (ltb q.before (whole_records s)) refl
         (rw (h, take_all (16 * q.before) s (omega (arith, passed, whole)))))
 
 -- nothing is said of a record that a part ends before
-pub ends-before : (q : Question) (s : List ℕ) → part_said q s ≡ none → whole_records s ≤ q.before
+pub ends-before : (q : Question) (s : List ℕ) → part_said q s ≡ None → whole_records s ≤ q.before
 unfolding said_at
 ends-before q s e = by (ltb q.before (whole_records s)) refl
   where
     by : (t : Bool) → ltb q.before (whole_records s) ≡ t → whole_records s ≤ q.before
-    by true h = absurd (some-ne-none _ (rw h at e))
+    by true h = absurd (nothing-there _ (sym (rw h at e)))
     by false h = ltb-false q.before (whole_records s) h
 
-pub says_nothing : (o : Option Said) → found true (λ said. false) o ≡ true → o ≡ none
-says_nothing none e = refl
-says_nothing (some said) e = absurd (true≢false (sym e))
+pub says_nothing : (o : Option Said) → found true (λ said. false) o ≡ true → o ≡ None
+says_nothing None e = refl
+says_nothing (Some said) e = absurd (true≢false (sym e))
 
 -- any parts
 first-or-end : (o x : Option Said) → found (at_end x) (λ said. said) o ≡ at_end (or_else o x)
-first-or-end none x = refl
-first-or-end (some said) x = refl
+first-or-end None x = refl
+first-or-end (Some said) x = refl
 
 all-parts :
     (parts : List (List ℕ)) (q : Question) →
@@ -121,7 +122,7 @@ explained-in-parts input parts file whole =
     rw (all, number-alone input, file, four)
 
 -- a refused record leaves the monitor
-skip : (m : Monitor) (r : List ℕ) (k : ℕ) → record_refusal r ≡ some k → play_from m (and_then (call_of r) []) ≡ m
+skip : (m : Monitor) (r : List ℕ) (k : ℕ) → record_refusal r ≡ Some k → play_from m (and_then (call_of r) []) ≡ m
 unfolding after_record
 skip m r k e = untouched m r k e
 
@@ -136,8 +137,8 @@ accepted-alone m s (suc n) = by (record_refusal (record_at s n)) refl (accepted-
         play_from m (calls_before s n) ≡ play_from m (accepted_before s n) →
         play_from m (and_then (call_of (record_at s n)) (calls_before s n)) ≡
         play_from m (and_then (accepted_call (record_at s n)) (accepted_before s n))
-    by none e same = rw e (then_same m m _ _ (call_of (record_at s n)) same)
-    by (some k) e same =
+    by None e same = rw e (then_same m m _ _ (call_of (record_at s n)) same)
+    by (Some k) e same =
         rw e
         (sym (then_one m (calls_before s n) (call_of (record_at s n))) ∙
         (skip (play_from m (calls_before s n)) (record_at s n) k e ∙ same))

@@ -1,7 +1,7 @@
 -- What is claimed of files, beyond the contracts: one may be taken in parts, the first of whole records, or be of an
 -- earlier release, and what is refused in it is skipped.
 use Rattle.std.specs.Prelude.{◌≡◌, ℕ, ◌+◌, ◌%◌, ◌<◌, ◌≤◌, false, List, [], ◌∷◌, ◌++◌, length, take, drop, slice_index}
-use Rattle.std.proofs.Math.Option.{some}
+use Rattle.std.specs.Prelude.{Some}
 use Rattle.endian.specs.Bytes.{any_set}
 use Rattle.endian.specs.Loads.{number}
 use Rattle.monitor.specs.declared.record.Monitor.{Monitor}
@@ -51,7 +51,7 @@ EarlierCompletions =
     record_kind r ≡ 2 →
     any_set (unnamed 2 4 8 r) ≡ false →
     call_of r ≡
-    some (completion (record { opcode = slice_index r 1; deallocate = false; latency = number (part 4 8 r) }))
+    Some (completion (record { opcode = slice_index r 1; deallocate = false; latency = number (part 4 8 r) }))
 
 -- 02, Ticket 4: a file whose completions have 0 in byte 2 is a history without the attribute
 unfoldable pub EarlierFiles : Type 0

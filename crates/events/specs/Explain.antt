@@ -1,16 +1,17 @@
 -- 02, Ticket 5: what is said of a record of an event file, by its number from 0: the reason why it does not load a
 -- latency stamp, or that it is turned away.
 use Rattle.std.specs.Prelude.{ℕ, ◌-◌, ◌*◌, List, [], ◌∷◌, length, take, drop, nat_lt}
-use Rattle.std.proofs.Math.Option.{Option, none, some}
+use Rattle.std.specs.Prelude.{Option, None, Some, Result, Ok, Err}
 use Rattle.endian.specs.Loads.{number}
 use Rattle.rules.specs.declared.commands.Command.{Command}
 use Rattle.monitor.specs.declared.record.Monitor.{Monitor}
 use Rattle.monitor.specs.Calls.{Call, found, only_if, play_from, command_in}
-use Rattle.monitor.specs.Reasons.{reason_of}
+use Rattle.monitor.specs.declared.reasons.Reason.{Reason}
+use Rattle.monitor.specs.Reasons.{reason_of, says_reason}
 use Rattle.monitor.specs.Record.{new_monitor}
 use Rattle.text.specs.Lines.{number_line, refused_line}
-use Rattle.events.specs.declared.answers.Explained.{Explained}
-use Rattle.events.specs.declared.answers.Explained.TheVariants as explained
+use Rattle.refusals.specs.declared.Refusal.{Refusal}
+use Rattle.refusals.specs.Refusals.{number_of}
 use Rattle.events.specs.declared.explain.Question.{Question}
 use Rattle.records.specs.Records.{call_of}
 use Rattle.events.specs.Files.{record_at, whole_records, history_of}
@@ -27,7 +28,7 @@ not_a_completion = refused 16
 
 -- the completion that a record stands for; a record that 11 turns away stands for none
 unfoldable pub completion_at : List ℕ → Option Command
-completion_at r = found none (λ (c : Call). command_in c) (call_of r)
+completion_at r = found None (λ (c : Call). command_in c) (call_of r)
 
 -- what is said of a record, by the monitor before it
 unfoldable pub record_said : Monitor → List ℕ → Said
@@ -82,8 +83,11 @@ unfoldable pub parts_said : Question → List (List ℕ) → Said
 parts_said q [] = not_a_completion
 parts_said q (s ∷ parts) = found (parts_said (after_part q s) parts) (λ said. said) (part_said q s)
 
--- what the code's cases say
-abbrev pub says_explained : Explained → Option Said
-says_explained (explained.Reason n) = some (reason n)
-says_explained (explained.Refused n) = some (refused n)
-says_explained explained.Unread = none
+-- what the code's answers say
+abbrev pub says_said : Result (Option Reason) Refusal → Said
+says_said (Ok why) = reason (says_reason why)
+says_said (Err refusal) = refused (number_of refusal)
+
+abbrev pub says : Option (Result (Option Reason) Refusal) → Option Said
+says (Some said) = Some (says_said said)
+says None = None

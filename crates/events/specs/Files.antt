@@ -1,9 +1,9 @@
 -- 01, The page program: the history of a file, and where a file is turned away.
 use Rattle.std.specs.Prelude.{◌≡◌, ℕ, zero, suc, ◌*◌, ◌/◌, ◌%◌, ◌<◌, cond, List, [], length, take, drop, ◌==◌}
-use Rattle.std.proofs.Math.Option.{Option, none, some}
+use Rattle.std.specs.Prelude.{Option, None, Some}
 use Rattle.monitor.specs.Calls.{History, found, and_then, or_else}
-use Rattle.events.specs.declared.answers.Halt.{Halt}
-use Rattle.events.specs.declared.answers.Halt.TheVariants as halt
+use Rattle.refusals.specs.Refusals.{number_of}
+use Rattle.events.specs.declared.files.RefusedRecord.{RefusedRecord}
 use Rattle.records.specs.Records.{call_of, record_refusal, accepted_call}
 
 -- record i of a file, from 0
@@ -34,16 +34,16 @@ pub record Refusal : Type 0 where
   pub number : ℕ
 
 abbrev pub refusal_at : ℕ → Option ℕ → Option Refusal
-refusal_at i none = none
-refusal_at i (some n) = some (record { index = i; number = n })
+refusal_at i None = None
+refusal_at i (Some n) = Some (record { index = i; number = n })
 
 -- nothing turns the first n records away
 abbrev pub NoneRefused : List ℕ → ℕ → Type 0
-NoneRefused s n = (i : ℕ) → i < n → record_refusal (record_at s i) ≡ none
+NoneRefused s n = (i : ℕ) → i < n → record_refusal (record_at s i) ≡ None
 
 -- the first refused record among the n from record i on
 unfoldable pub first_refused_from : List ℕ → (i n : ℕ) → Option Refusal
-first_refused_from s i zero = none
+first_refused_from s i zero = None
 first_refused_from s i (suc n) =
     or_else (refusal_at i (record_refusal (record_at s i))) (first_refused_from s (suc i) n)
 
@@ -55,11 +55,11 @@ first_refused s = first_refused_from s 0 (whole_records s)
 unfoldable pub accepted_records : List ℕ → ℕ
 accepted_records s = found (whole_records s) (λ (r : Refusal). r.index) (first_refused s)
 
--- where a run halted
-abbrev pub says_halt : Halt → Option Refusal
-says_halt (halt.Refused i n) = some (record { index = i; number = n })
-says_halt halt.End = none
+-- the refused record that a run stopped at
+abbrev pub says_refused : Option RefusedRecord → Option Refusal
+says_refused (Some r) = Some (record { index = r.index; number = number_of r.refusal })
+says_refused None = None
 
 -- 01, Where a call is turned away: a file that is not of whole records
 unfoldable pub end_refusal : ℕ → Option ℕ
-end_refusal n = cond (n % 16 == 0) none (some 12)
+end_refusal n = cond (n % 16 == 0) None (Some 12)

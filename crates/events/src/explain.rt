@@ -1,22 +1,19 @@
 // Why a completion of an event file does not load a latency stamp (document 02, Ticket 5). The file is read in parts,
 // up to the record that is asked about.
-ghost use Rattle.std.specs.Prelude.{◌≡◌, ◌≤◌, true, false, length};
-ghost use Rattle.std.proofs.Math.Option.{some};
-ghost use Rattle.monitor.specs.Calls.{found};
-ghost use Rattle.text.specs.Lines.{as_line};
+ghost use Rattle.std.specs.Prelude.{◌≡◌, Some, length};
 ghost use Rattle.events.specs.Explain.{record_said, at_end, number_said, said_line, question_of, after_part, part_said};
-ghost use Rattle.events.specs.Explain.{says_explained};
+ghost use Rattle.events.specs.Explain.{says, says_said};
 
-use crate::answers::Explained;
-use crate::{blocks, files};
-use monitor::Monitor;
+use crate::files;
+use monitor::{Monitor, Reason, Refusal};
+use records::{Event, RECORD};
 use text::Line;
 
 // The bytes of a record's number.
 const NUMBER: usize = 4;
 
-// The refusal of a number that is not whole, or that no completion has.
-const NOT_A_COMPLETION: u8 = 16;
+// What is said of a record: the lowest reason that applies, if any does, or why the question is turned away.
+pub type Said = Result<Option<Reason>, Refusal>;
 
 // A record that is asked about: the monitor that the records so far have left, and how many are still to come before
 // it.
@@ -26,34 +23,32 @@ pub struct Question {
     pub before: u32,
 }
 
-// What a part of the input leaves of a question, and what is said.
+// What a part of the input leaves of a question, and what is said; nothing, where the record has not been reached.
 #[derive(Clone, Copy)]
 pub struct Explanation {
     pub next: Question,
-    pub said: Explained,
+    pub said: Option<Said>,
 }
 
 // What is said of a number, before the file.
-fn number_said(n: usize) -> Explained
-    ensures { says_explained result ≡ number_said n }
+fn number_said(n: usize) -> Option<Said>
+    ensures { says result ≡ number_said n }
 {
     if n < NUMBER {
-        Explained::Refused(NOT_A_COMPLETION)
+        Some(Err(Refusal::NotACompletion))
     } else {
-        Explained::Unread
+        None
     }
 }
 
 // What is said of a record, by the monitor before it.
-fn record_said(m: Monitor, r: &[u8]) -> Explained
-    requires { length r.now ≡ 16 }
-    ensures { says_explained result ≡ some (record_said m r.now) }
+#[tactic(auto, unfolding(crate::specs::Explain::record_said, crate::specs::Explain::completion_at))]
+fn record_said(m: Monitor, r: &[u8]) -> Said
+    ensures { says_said result ≡ record_said m r.now }
 {
-    if records::is_completion(r) {
-        let reason = m.reason(records::command(r));
-        Explained::Reason(reason)
-    } else {
-        Explained::Refused(NOT_A_COMPLETION)
+    match Event::read(r) {
+        Ok(Event::Completion(c)) => Ok(m.reason(c)),
+        _ => Err(Refusal::NotACompletion),
     }
 }
 
@@ -61,61 +56,48 @@ impl Question {
     // The question of the record with this number, which has four bytes, lowest first.
     pub fn new(number: &[u8]) -> Explanation
         ensures next { result.next ≡ question_of number.now }
-        ensures said { says_explained result.said ≡ number_said (length number.now) }
+        ensures said { says result.said ≡ number_said (length number.now) }
     {
         let monitor = Monitor::new();
-        let before = endian::load(blocks::first_bytes(number, NUMBER)) as u32;
-        let next = Question { monitor, before };
-        let said = number_said(number.len());
-        Explanation { next, said }
+        let n = number.len();
+        let before = endian::load(&number[..NUMBER.min(n)]) as u32;
+        Explanation {
+            next: Question { monitor, before },
+            said: number_said(n),
+        }
     }
 
     // The next part of the file: whole records, and in the last part what is left over. Once something is said the
     // question is answered, and there is nothing to go on with.
     pub fn read(self, s: &[u8]) -> Explanation
         ensures next { result.next ≡ after_part self s.now }
-        ensures said { says_explained result.said ≡ part_said self s.now }
+        ensures said { says result.said ≡ part_said self s.now }
     {
         let before = self.before as usize;
-        let whole = s.len() / records::RECORD;
-        let from = records::RECORD * before;
-        let to = from + records::RECORD;
-        let monitor = files::replay(self.monitor, blocks::first_bytes(s, from));
+        let whole = s.len() / RECORD;
+        let from = RECORD * before;
+        let monitor = files::replay(self.monitor, &s[..from.min(s.len())]);
         if before < whole {
-            let next = Question { monitor, before: 0 };
-            let said = record_said(monitor, &s[from..to]);
-            Explanation { next, said }
+            Explanation {
+                next: Question { monitor, before: 0 },
+                said: Some(record_said(monitor, &s[from..from + RECORD])),
+            }
         } else {
-            let rest = (before - whole) as u32;
-            let next = Question {
-                monitor,
-                before: rest,
-            };
-            let said = Explained::Unread;
-            Explanation { next, said }
+            let before = (before - whole) as u32;
+            Explanation {
+                next: Question { monitor, before },
+                said: None,
+            }
         }
     }
 }
 
-// Whether nothing is said yet, so that there is more to be read.
-pub fn unread(e: Explained) -> bool
-    ensures { result ≡ found true (λ said. false) (says_explained e) }
-{
-    match e {
-        Explained::Reason(_) => false,
-        Explained::Refused(_) => false,
-        Explained::Unread => true,
-    }
-}
-
 // The line of what is said. A record that was not reached by the end of the input is not there.
-pub fn explained_line(e: Explained) -> Line
-    ensures value { result ≡ as_line (said_line (at_end (says_explained e))) }
-    ensures len_in_bounds { result.len ≤ length result.bytes }
+pub fn explained_line(said: Option<Said>) -> Line
+    ensures { result.bytes ≡ said_line (at_end (says said)) }
 {
-    match e {
-        Explained::Reason(n) => text::number_line(n as u64),
-        Explained::Refused(n) => text::refused_line(n as u64),
-        Explained::Unread => text::refused_line(NOT_A_COMPLETION as u64),
+    match said.unwrap_or(Err(Refusal::NotACompletion)) {
+        Ok(reason) => text::number_line(reason.map_or(0, |reason| u64::from(u8::from(reason)))),
+        Err(refusal) => text::refused_line(u64::from(u8::from(refusal))),
     }
 }

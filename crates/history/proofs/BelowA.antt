@@ -3,7 +3,7 @@ use Prim.Native.Nat.{ℕ, zero, suc, ◌+◌, ◌*◌, ◌≤◌, ◌<◌}
 use mathlib.Core.Path.{◌≡◌, refl, sym, ap, subst, ◌∙◌}
 use mathlib.Core.Bool.{Bool, true, false, cond, ◌&&◌, and-true, and-false}
 use mathlib.Core.List.{List, [], ◌∷◌}
-use mathlib.Core.Option.{Option, none, some}
+use Rattle.std.specs.Prelude.{Option, None, Some}
 use native.Mathlib.Omega.{arith}
 use lib.Dec.{eqb}
 use lib.ListN.{length, get_or, replicate}
@@ -44,9 +44,9 @@ data FallsIn (x : Completed) : Type 0 where
       (b : ℕ) →
       b < 4 →
       is_fast x ≡ false →
-      counted_of x ≡ some (in-its-counter x b) →
+      counted_of x ≡ Some (in-its-counter x b) →
       FallsIn x
-  below_a : is_fast x ≡ true → counted_of x ≡ none → FallsIn x
+  below_a : is_fast x ≡ true → counted_of x ≡ None → FallsIn x
 
 abbrev Falls : Completed → Type 0
 Falls x = (x.kind < 3) × FallsIn x
@@ -55,8 +55,8 @@ falls : (e : Effect) (past : Past) → Some Falls (completed_at e past)
 falls e past = by (completion_in e)
   where
     none_here : (c : Command) (o : Option ℕ) → Some Falls (completed_if false o c past)
-    none_here c none = tt
-    none_here c (some k) = tt
+    none_here c None = tt
+    none_here c (Some k) = tt
 
     as-becomes :
         (c : Command) →
@@ -67,9 +67,9 @@ falls e past = by (completion_in e)
     as-becomes c (kindless kind e e') = rw kind tt
     as-becomes c (disabled off e e') = rw off (none_here c (kind_of c))
 
-    by : (o : Option Command) → Some Falls (found none (λ c. completed_if (in_force past).enabled (kind_of c) c past) o)
-    by none = tt
-    by (some c) = as-becomes c (becomes (in_force past) c)
+    by : (o : Option Command) → Some Falls (found None (λ c. completed_if (in_force past).enabled (kind_of c) c past) o)
+    by None = tt
+    by (Some c) = as-becomes c (becomes (in_force past) c)
 
 -- how many pass a test
 abbrev number : {A : Type 0} → (A → Bool) → List A → ℕ

@@ -3,7 +3,7 @@ use Prim.Native.Nat.{ℕ, zero, suc, ◌*◌, ◌-◌, ◌/◌, ◌<◌}
 use mathlib.Core.Path.{◌≡◌, refl}
 use mathlib.Core.Bool.{Bool, true, false}
 use mathlib.Core.List.{List, [], ◌∷◌}
-use mathlib.Core.Option.{Option, none, some}
+use Rattle.std.specs.Prelude.{Option, None, Some}
 use native.Mathlib.Decide.{dec_lt}
 use native.Mathlib.Omega.{arith}
 use lib.ListN.{get_or}
@@ -26,7 +26,7 @@ use Rattle.history.specs.Effects.{powered_up, nothing, if_accepted, effect_of, P
 use Rattle.history.specs.Effects.{completion_in, latest, since}
 use Rattle.rules.specs.Refusals.{settings_refusal, elapsed_refusal, clock_refusal, page_refusal, settings_back_refusal}
 use Rattle.rules.specs.Settings.{decoded}
-use Rattle.rules.proofs.refusals.Laws.{Accepted, accepted}
+use Rattle.rules.proofs.Refusals.{Accepted, accepted}
 use Rattle.rules.proofs.commands.Laws.{counter-below}
 use Rattle.history.proofs.Facts.{Good, enabled-positive, clock-top}
 use Rattle.history.proofs.Lists.{All, Some, every, all-those, length_from}
@@ -41,8 +41,8 @@ module _ {A : Type 0} (P : A → Type 0) where
   latest-some f (e ∷ past) a = by (f e) a.0 (latest-some f past a.1)
     where
       by : (o : Option A) → Some P o → Some P (latest f past) → Some P (or_else o (latest f past))
-      by none k earlier = earlier
-      by (some x) k earlier = k
+      by None k earlier = earlier
+      by (Some x) k earlier = k
 
   pub since-each :
       {B : Type 0} (start : Effect → Option B) (f : Effect → Past → Option A) (past : Past) →
@@ -57,9 +57,9 @@ module _ {A : Type 0} (P : A → Type 0) where
           Some P o →
           All P (since start f past) →
           All P (unless_found b (and_then o (since start f past)))
-      by (some y) o q earlier = tt
-      by none none q earlier = earlier
-      by none (some x) q earlier = (q, earlier)
+      by (Some y) o q earlier = tt
+      by None None q earlier = earlier
+      by None (Some x) q earlier = (q, earlier)
 
   pub since-all :
       {B : Type 0} (start : Effect → Option B) (f : Effect → Past → Option A) →
@@ -104,15 +104,15 @@ abbrev pub SoundPast : Past → Type 0
 SoundPast past = All (λ e. Some Sound (settings_in e)) past
 
 none_in : (r : Option ℕ) (e : Effect) → Some Sound (settings_in e) → Some Sound (settings_in (if_accepted r e))
-none_in none e k = k
-none_in (some n) e k = tt
+none_in None e k = k
+none_in (Some n) e k = tt
 
 sound-call : (c : Call) → Bytes (found [] (λ s. s) (settings_in (asked c))) → Some Sound (settings_in (effect_of c))
 sound-call (settings s) b = by (settings_refusal s) refl
   where
     by : (r : Option ℕ) → settings_refusal s ≡ r → Some Sound (settings_in (if_accepted r (configured s)))
-    by none e = record { bytes = b; accepted = accepted s e }
-    by (some n) e = tt
+    by None e = record { bytes = b; accepted = accepted s e }
+    by (Some n) e = tt
 sound-call (completion c) b = tt
 sound-call (elapsed ms) b = none_in (elapsed_refusal ms) (passed ms) tt
 sound-call (clock value) b = none_in (clock_refusal value) (clock_set value) tt
@@ -131,8 +131,8 @@ module _ (past : Past) (sound : SoundPast past) where
   settings-fit = by (latest settings_in past) (latest-some Sound settings_in past sound)
     where
       by : (o : Option (List ℕ)) → Some Sound o → FitsSettings (found no_settings decoded o)
-      by none k = none-fit
-      by (some s) k = settings-of-bytes s k.bytes
+      by None k = none-fit
+      by (Some s) k = settings-of-bytes s k.bytes
 
   threshold-below : timer_threshold_of past < 65536
   unfolding timer_threshold_of
@@ -145,17 +145,17 @@ module _ (past : Past) (sound : SoundPast past) where
       of-effect :
           (o : Option (List ℕ)) →
           Some Sound o →
-          Some FitsSettings (found none (λ s. only_if (decoded s).enabled (decoded s)) o)
-      of-effect none k = tt
-      of-effect (some s) k = of-settings s k (decoded s).enabled
+          Some FitsSettings (found None (λ s. only_if (decoded s).enabled (decoded s)) o)
+      of-effect None k = tt
+      of-effect (Some s) k = of-settings s k (decoded s).enabled
 
       each_fits : (q : Past) → SoundPast q → All (λ e. Some FitsSettings (enabling_in e)) q
       each_fits [] k = tt
       each_fits (e ∷ q) k = (of-effect (settings_in e) k.0, each_fits q k.1)
 
       by : (o : Option Settings) → Some FitsSettings o → found 0 (λ (s : Settings). s.timer_threshold) o < 65536
-      by none k = omega arith
-      by (some s) k = k.threshold
+      by None k = omega arith
+      by (Some s) k = k.threshold
 
 -- without settings with enable 1 no time is measured
 unstarted : (past : Past) → Good past → timer_threshold_of past ≡ 0 → enabled_time past ≡ 0
@@ -200,16 +200,16 @@ unfolding count_of
 count-below xs = omega arith
 
 stamp-below : (load : Option Counted) → stamp_of load < 18446744073709551616
-stamp-below none = omega arith
-stamp-below (some x) = omega (arith, clock-top x.before)
+stamp-below None = omega arith
+stamp-below (Some x) = omega (arith, clock-top x.before)
 
 ms-below : (c : Command) → milliseconds_of c < 65536
 unfolding milliseconds_of
 ms-below c = omega arith
 
 latency-below : (load : Option Counted) → latency_of load < 65536
-latency-below none = omega arith
-latency-below (some x) = ms-below x.command
+latency-below None = omega arith
+latency-below (Some x) = ms-below x.command
 
 -- the debug log
 abbrev pub OfTwelve : Counted → Type 0
@@ -221,21 +221,21 @@ few e past = by (completion_in e)
     named :
         (c : Command) (o : Option ℕ) →
         counter_of (in_force past) c ≡ o →
-        Some OfTwelve (found none (λ n. some (record { counter = n; command = c; before = past })) o)
-    named c none q = tt
-    named c (some n) q = counter-below (in_force past) c n q
+        Some OfTwelve (found None (λ n. Some (record { counter = n; command = c; before = past })) o)
+    named c None q = tt
+    named c (Some n) q = counter-below (in_force past) c n q
 
-    of-kind : (c : Command) (k : Option ℕ) (on : Bool) → Some OfTwelve (found none counted_of (completed_if on k c past))
-    of-kind c none on = tt
-    of-kind c (some k) false = tt
-    of-kind c (some k) true = named c (counter_of (in_force past) c) refl
+    of-kind : (c : Command) (k : Option ℕ) (on : Bool) → Some OfTwelve (found None counted_of (completed_if on k c past))
+    of-kind c None on = tt
+    of-kind c (Some k) false = tt
+    of-kind c (Some k) true = named c (counter_of (in_force past) c) refl
 
     by :
         (o : Option Command) →
         Some OfTwelve
-        (found none counted_of (found none (λ c. completed_if (in_force past).enabled (kind_of c) c past) o))
-    by none = tt
-    by (some c) = of-kind c (kind_of c) (in_force past).enabled
+        (found None counted_of (found None (λ c. completed_if (in_force past).enabled (kind_of c) c past) o))
+    by None = tt
+    by (Some c) = of-kind c (kind_of c) (in_force past).enabled
 
 pub first_some : (P : Counted → Type 0) (xs : List Counted) → All P xs → Some P (earliest xs)
 unfolding earliest
@@ -243,8 +243,8 @@ first_some P [] a = tt
 first_some P (x ∷ xs) a = by (earliest xs) (first_some P xs a.1)
   where
     by : (o : Option Counted) → Some P o → Some P (or_earliest x o)
-    by none k = a.0
-    by (some y) k = k
+    by None k = a.0
+    by (Some y) k = k
 
 debug-fits : (past : Past) → FitsDebug (debug_at past)
 unfolding debug_at no_debug_log
@@ -253,8 +253,8 @@ debug-fits past =
     (first_some OfTwelve _ (all-those triggered (λ x t k. k) _ (since-all OfTwelve discard_in counted_at few past)))
   where
     by : (o : Option Counted) → Some OfTwelve o → FitsDebug (found no_debug_log log_of o)
-    by none k = record { stamp = omega arith; latency = omega arith; source = omega arith }
-    by (some x) k =
+    by None k = record { stamp = omega arith; latency = omega arith; source = omega arith }
+    by (Some x) k =
         record {
           stamp = omega (arith, clock-top x.before);
           latency = ms-below x.command;

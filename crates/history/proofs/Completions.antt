@@ -3,7 +3,7 @@ use Prim.Native.Nat.{ℕ, ◌+◌, ◌-◌, ◌*◌, ◌%◌, ◌<◌}
 use mathlib.Core.Path.{◌≡◌, refl, sym, ap, ◌∙◌}
 use mathlib.Core.Bool.{Bool, true, false, cond, ◌&&◌, and-false}
 use mathlib.Core.List.{List, ◌∷◌}
-use mathlib.Core.Option.{Option, none, some}
+use Rattle.std.specs.Prelude.{Option, None, Some}
 use native.Mathlib.Nat.{zero-add}
 use native.Mathlib.Omega.{arith}
 use lib.Dec.{eqb}
@@ -44,9 +44,9 @@ now-is past = in_window_lem (enabled_time past) (timer_threshold_of past)
 abbrev loading : Counted → Option Counted → Bool
 loading x load = found true (λ y. loads_after x y) load
 
-or-load : (x : Counted) (load : Option Counted) → or_load x load ≡ cond (loading x load) (some x) load
-or-load x none = refl
-or-load x (some y) = refl
+or-load : (x : Counted) (load : Option Counted) → or_load x load ≡ cond (loading x load) (Some x) load
+or-load x None = refl
+or-load x (Some y) = refl
 
 -- a counted completion x, for counter n, of the active window
 module _ (past : Past) (c : Command) (n : ℕ) where
@@ -132,8 +132,8 @@ module _ (past : Past) (c : Command) (n : ℕ) where
           (bit (in_force past).mode n)
           (in_force past).minimum_window ≡
           loading here-counted o
-      by none k = refl
-      by (some y) k = rw (ne_eqb (clock_at y.before) unset (λ e. omega (arith, clock-top y.before)), ← k)
+      by None k = refl
+      by (Some y) k = rw (ne_eqb (clock_at y.before) unset (λ e. omega (arith, clock-top y.before)), ← k)
 
   -- the static window does not take it in
   pub left_out : (k : ℕ) → filter (counter_in Static past k) (here-counted ∷ counted_since past) ≡ static past k
@@ -151,8 +151,8 @@ module _ (past : Past) (c : Command) (n : ℕ) where
           (o : Option Counted) →
           cond (eqb (found no_debug_log log_of o).stamp unset) (log_of here-counted) (found no_debug_log log_of o) ≡
           found no_debug_log log_of (or_earliest here-counted o)
-      held none = refl
-      held (some y) = rw (ne_eqb (clock_at y.before) unset (λ e. omega (arith, clock-top y.before)))
+      held None = refl
+      held (Some y) = rw (ne_eqb (clock_at y.before) unset (λ e. omega (arith, clock-top y.before)))
 
       by :
           (b : Bool) (xs : List Counted) →
@@ -220,7 +220,7 @@ abbrev after-it : Past → Option Completed → Monitor
 after-it past o =
     described (in_force past) (timer_at past) (host_set_at past) (enabled_time past % 300000) (clock_at past)
     (found no_debug_log log_of (earliest (filter triggered
-    (and_then (found none counted_of o) (since discard_in counted_at past)))))
+    (and_then (found None counted_of o) (since discard_in counted_at past)))))
     (window_at past)
     (and_then o (since_enabled past))
 
@@ -233,9 +233,9 @@ facts-after past c = refl
 -- a completion of no kind, or while disabled
 uncounted-step :
     (past : Past) (c : Command) →
-    counter_of (in_force past) c ≡ none →
-    below_a_of (in_force past) c ≡ none →
-    after_completion (record_of past) c ≡ after-it past none
+    counter_of (in_force past) c ≡ None →
+    below_a_of (in_force past) c ≡ None →
+    after_completion (record_of past) c ≡ after-it past None
 unfolding record_of active static below_a_counts of_kind_below_a debug_at
 uncounted-step past c e none_below =
     sym (uncounted (record_of past) c (below_a_counts Active past) e (rw none_below)).0
@@ -244,9 +244,9 @@ fast-step :
     (past : Past) (c : Command) (k : ℕ) →
     k < 3 →
     is_below_a (in_force past) c ≡ true →
-    counter_of (in_force past) c ≡ none →
-    below_a_of (in_force past) c ≡ some k →
-    after_completion (record_of past) c ≡ after-it past (some (here-completed past c k))
+    counter_of (in_force past) c ≡ None →
+    below_a_of (in_force past) c ≡ Some k →
+    after_completion (record_of past) c ≡ after-it past (Some (here-completed past c k))
 unfolding record_of active static debug_at filter_map
 fast-step past c k few below e kind =
     rw e (sym (uncounted (record_of past) c (once_more_at (below_a_counts Active past) k) e (rw kind)).0 ∙
@@ -262,8 +262,8 @@ slow-step :
     n < 12 →
     (in_force past).enabled ≡ true →
     is_below_a (in_force past) c ≡ false →
-    counter_of (in_force past) c ≡ some n →
-    after_completion (record_of past) c ≡ after-it past (some (here-completed past c k))
+    counter_of (in_force past) c ≡ Some n →
+    after_completion (record_of past) c ≡ after-it past (Some (here-completed past c k))
 unfolding record_of filter_map
 slow-step past g c k n few on reached e =
     let all : All (Here past) (active past n) = all-active past g on n in
@@ -295,15 +295,15 @@ completion-step past g c = by (becomes (in_force past) c) ∙ sym (facts-after p
         after-it past o ≡ after-it past (completed_at (completed c) past)
     to-facts o e = ap (after-it past) (sym e)
 
-    no_one : (o : Option ℕ) → completed_if false o c past ≡ none
-    no_one none = refl
-    no_one (some k) = refl
+    no_one : (o : Option ℕ) → completed_if false o c past ≡ None
+    no_one None = refl
+    no_one (Some k) = refl
 
     by : Becomes (in_force past) c → after_completion (record_of past) c ≡ after-it past (completed_at (completed c) past)
     by (slow k b few low on kind reached e) =
         slow-step past g c k (3 * b + k) (omega arith) on reached e ∙
-        to-facts (some (here-completed past c k)) (rw (kind, on))
+        to-facts (Some (here-completed past c k)) (rw (kind, on))
     by (fast k few on kind below e e') =
-        fast-step past c k few below e e' ∙ to-facts (some (here-completed past c k)) (rw (kind, on))
-    by (kindless kind e e') = uncounted-step past c e e' ∙ to-facts none (rw kind)
-    by (disabled off e e') = uncounted-step past c e e' ∙ to-facts none (rw off (no_one (kind_of c)))
+        fast-step past c k few below e e' ∙ to-facts (Some (here-completed past c k)) (rw (kind, on))
+    by (kindless kind e e') = uncounted-step past c e e' ∙ to-facts None (rw kind)
+    by (disabled off e e') = uncounted-step past c e e' ∙ to-facts None (rw off (no_one (kind_of c)))

@@ -3,7 +3,7 @@ use Prim.Native.Nat.{ℕ, ◌<◌}
 use mathlib.Core.Path.{◌≡◌, refl}
 use mathlib.Core.Bool.{Bool, true, false, and-false}
 use mathlib.Core.List.{[], ◌∷◌}
-use mathlib.Core.Option.{Option, none, some}
+use Rattle.std.specs.Prelude.{Option, None, Some}
 use native.Mathlib.Omega.{arith}
 use borrow.Author.Tests.{ne_eqb}
 use Rattle.rules.specs.declared.commands.Command.{Command}
@@ -41,8 +41,8 @@ without-past [] a = tt
 without-past (call ∷ h) a = (by (refusal_of call) (asked call) (as-asked call a.0), without-past h a.1)
   where
     by : (r : Option ℕ) (e : Effect) → Without e → Without (if_accepted r e)
-    by none e k = k
-    by (some n) e k = refl
+    by None e k = k
+    by (Some n) e k = refl
 
 -- a completion of a kind without it is a Read or a Write
 abbrev ReadOrWrite : Completed → Type 0
@@ -57,16 +57,16 @@ read-or-write e without before = by (completion_in e) without
         (on : Bool) (o : Option ℕ) →
         kind_of c ≡ o →
         Some ReadOrWrite (completed_if on o c before)
-    of-kind c without on none k = tt
-    of-kind c without true (some n) k = kind-without c n without k
-    of-kind c without false (some n) k = tt
+    of-kind c without on None k = tt
+    of-kind c without true (Some n) k = kind-without c n without k
+    of-kind c without false (Some n) k = tt
 
     by :
         (o : Option Command) →
         found false (λ (c : Command). c.deallocate) o ≡ false →
-        Some ReadOrWrite (found none (λ c. completed_if (in_force before).enabled (kind_of c) c before) o)
-    by none without = tt
-    by (some c) without = of-kind c without (in_force before).enabled (kind_of c) refl
+        Some ReadOrWrite (found None (λ c. completed_if (in_force before).enabled (kind_of c) c before) o)
+    by None without = tt
+    by (Some c) without = of-kind c without (in_force before).enabled (kind_of c) refl
 
 none-of-them : (past : Past) (w : WindowChoice) → All Without past → of_kind w past 2 ≡ []
 unfolding of_kind

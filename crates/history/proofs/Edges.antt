@@ -2,7 +2,7 @@
 use mathlib.Core.Path.{◌≡◌, refl, ap, ◌∙◌}
 use mathlib.Core.Bool.{true}
 use mathlib.Core.List.{List, [], ◌∷◌}
-use mathlib.Core.Option.{Option, none, some}
+use Rattle.std.specs.Prelude.{Option, None, Some}
 use Prim.Native.Nat.{ℕ, ◌*◌}
 use lib.ListN.{get_or, take, drop}
 use Rattle.endian.specs.Bytes.{any_set}
@@ -63,7 +63,7 @@ measured-row :
 measured-row us b ms row =
     by-usual (λ m. get_or (after_completion m (read us)).active_window.latencies (3 * b) 0) ms row
 
-equal-row : Holds (bucket (1 ∷ 1 ∷ 3 ∷ 9 ∷ []) 10000 (some 1))
+equal-row : Holds (bucket (1 ∷ 1 ∷ 3 ∷ 9 ∷ []) 10000 (Some 1))
 unfolding new_monitor completion_answer counter_of bucket_of highest kind_of milliseconds_of loads triggers empty_window no_debug_log
 equal-row = ap (λ m. completion_answer m (read 10000)) equal-record
 
@@ -79,17 +79,17 @@ stamp-of-two p = refl
 pub edges-hold : EdgesHold
 unfolding new_monitor completion_answer after_completion counter_of bucket_of highest kind_of milliseconds_of loads triggers counted_in elapsed_answers elapsed_answer after_elapsed elapsed_refusal ticked empty_window no_debug_log
 edges-hold = (
-  counted-row 4999 none refl,
+  counted-row 4999 None refl,
   (
-    counted-row 5000 (some 0) refl,
+    counted-row 5000 (Some 0) refl,
     (
-      counted-row 9999 (some 0) refl,
+      counted-row 9999 (Some 0) refl,
       (
-        counted-row 10000 (some 1) refl,
+        counted-row 10000 (Some 1) refl,
         (
-          counted-row 49999 (some 2) refl,
+          counted-row 49999 (Some 2) refl,
           (
-            counted-row 50000 (some 3) refl,
+            counted-row 50000 (Some 3) refl,
             (
               measured-row 4294967295 3 65535 refl,
               (

@@ -3,7 +3,7 @@ use Prim.Native.Nat.{ℕ, ◌+◌, ◌*◌, ◌-◌, ◌%◌, ◌≤◌, ◌<◌
 use mathlib.Core.Path.{◌≡◌, refl, sym, ap, ◌∙◌}
 use mathlib.Core.Bool.{Bool, true, false, cond, ◌&&◌, false≢true, true≢false}
 use mathlib.Core.List.{List, [], ◌∷◌}
-use mathlib.Core.Option.{Option, none, some}
+use Rattle.std.specs.Prelude.{Option, None, Some}
 use native.Mathlib.Nat.{div-add-mod'}
 use native.Mathlib.Omega.{arith}
 use borrow.Author.Tests.{eqb-true}
@@ -108,9 +108,9 @@ fine (completed c ∷ past) g = go (kind_of c) (in_force past).enabled (fine pas
         (o : Option ℕ) (b : Bool) →
         All (FineAt past) (since_enabled past) →
         All (FineAt (completed c ∷ past)) (and_then (completed_if b o c past) (since_enabled past))
-    go none b f = same f
-    go (some k) false f = same f
-    go (some k) true f = (
+    go None b f = same f
+    go (Some k) false f = same f
+    go (Some k) true f = (
       record { early = omega arith; apart = λ on. omega (arith, div-add-mod' (enabled_time past) (span past)) },
       same f,
     )
@@ -155,22 +155,22 @@ fine-counted past g =
         FineAt past x →
         (o : Option ℕ) →
         Some (λ (y : Counted). Fine past y.before)
-        (found none (λ n. some (record { counter = n; command = x.command; before = x.before })) o)
-    by x k none = tt
-    by x k (some n) = k
+        (found None (λ n. Some (record { counter = n; command = x.command; before = x.before })) o)
+    by x k None = tt
+    by x k (Some n) = k
 
 pub last-load-all : (P : Counted → Type 0) (xs : List Counted) → All P xs → Some P (last_load xs)
 unfolding last_load
 last-load-all P [] a = tt
 last-load-all P (x ∷ xs) a = go (last_load xs) (last-load-all P xs a.1)
   where
-    pick : (y : Counted) (b : Bool) → P y → Some P (cond b (some x) (some y))
+    pick : (y : Counted) (b : Bool) → P y → Some P (cond b (Some x) (Some y))
     pick y true k = a.0
     pick y false k = k
 
     go : (o : Option Counted) → Some P o → Some P (or_load x o)
-    go none k = a.0
-    go (some y) k = pick y (loads_after x y) k
+    go None k = a.0
+    go (Some y) k = pick y (loads_after x y) k
 
 and_left : (a b : Bool) → (a && b) ≡ true → a ≡ true
 and_left true b e = refl

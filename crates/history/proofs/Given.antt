@@ -3,7 +3,7 @@ use Prim.Native.Nat.{ℕ, zero, suc, ◌+◌, ◌*◌, ◌/◌, ◌%◌, ◌≤�
 use mathlib.Core.Path.{◌≡◌, refl, sym, ap, ◌∙◌}
 use mathlib.Core.Bool.{Bool, true, false, ◌||◌, true≢false}
 use mathlib.Core.List.{List, [], ◌∷◌, ◌++◌}
-use mathlib.Core.Option.{Option, none, some}
+use Rattle.std.specs.Prelude.{Option, None, Some}
 use native.Mathlib.Omega.{arith}
 use lib.Dec.{eqb, ltb}
 use lib.ListN.{length, get_or, set, drop, replicate, length-drop}
@@ -29,7 +29,7 @@ use Rattle.rules.specs.Settings.{decoded, encoded, discard, enable}
 use Rattle.history.proofs.Bounds.{Sound, sound-past, latest-some}
 use Rattle.history.proofs.Lists.{Some}
 use Rattle.history.proofs.Play.{played-as-facts}
-use Rattle.rules.proofs.refusals.Laws.{Accepted}
+use Rattle.rules.proofs.Refusals.{Accepted}
 
 pub page-shows-facts : PageShowsFacts
 unfolding page_of record_of facts_of
@@ -121,8 +121,8 @@ settings-come-back h b =
         (o : Option (List ℕ)) →
         Some Sound o →
         encoded (found no_settings decoded o) ≡ found (replicate 4096 0) (λ s. set s 11 0) o
-    by none k = none-back
-    by (some s) k = round_trip s k.bytes k.accepted
+    by None k = none-back
+    by (Some s) k = round_trip s k.bytes k.accepted
 
 -- what the two calls leave of a lent buffer
 pub page-gives-facts : PageGivesFacts

@@ -3,7 +3,7 @@ use Prim.Native.Nat.{ℕ, zero, suc, ◌+◌, ◌≤◌, ◌<◌}
 use mathlib.Core.Path.{◌≡◌, refl, sym, ap, ◌∙◌}
 use mathlib.Core.Bool.{Bool, true, false, cond}
 use mathlib.Core.List.{List, [], ◌∷◌}
-use mathlib.Core.Option.{Option, none, some}
+use Rattle.std.specs.Prelude.{Option, None, Some}
 use native.Mathlib.Nat.{zero-add, add-zero, not-suc-le-zero}
 use native.Mathlib.Omega.{arith}
 use lib.Dec.{eqb}
@@ -76,8 +76,8 @@ module _ {A : Type 0} where
 
 -- a fact of what is there
 abbrev pub Some : {A : Type 0} → (A → Type 0) → Option A → Type 0
-Some P none = Unit {0}
-Some P (some x) = P x
+Some P None = Unit {0}
+Some P (Some x) = P x
 
 pub every : {A : Type 0} {P : A → Type 0} → ((x : A) → P x) → (xs : List A) → All P xs
 every f [] = tt
@@ -99,8 +99,8 @@ all_found P Q f k [] h = tt
 all_found {B = B} P Q f k (x ∷ xs) h = by (f x) (k x h.0) (all_found P Q f k xs h.1)
   where
     by : (o : Option B) → Some Q o → All Q (filter_map f xs) → All Q (and_then o (filter_map f xs))
-    by none q rest = rest
-    by (some y) q rest = (q, rest)
+    by None q rest = rest
+    by (Some y) q rest = (q, rest)
 
 -- one entry more, for one place of a table of counts
 pub counts-stored :

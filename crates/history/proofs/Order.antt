@@ -7,7 +7,7 @@ use mathlib.Core.HLevel.{Σ_set}
 use mathlib.Core.List.Perm
 use mathlib.Core.List.{List, [], ◌∷◌, foldr, is_set}
 use mathlib.Core.Logic.{◌≢◌}
-use mathlib.Core.Option.{Option, none, some}
+use Rattle.std.specs.Prelude.{Option, None, Some}
 use native.Mathlib.Nat.{ℕ_set}
 use native.Mathlib.Decide.{ℕ_discrete, dec_lt, dec_le}
 use native.Mathlib.Omega.{arith}
@@ -152,8 +152,8 @@ module _ (m : Monitor) where
 
   -- a completion, by its counter; without one, by its kind below threshold A
   abbrev tallied : Option ℕ → Option ℕ → ℕ → Tally → Tally
-  tallied (some n) kind ms x = counted-at n ms x
-  tallied none kind ms x =
+  tallied (Some n) kind ms x = counted-at n ms x
+  tallied None kind ms x =
       record { window = x.window; loaded = x.loaded; below_a = counted_below_a kind x.below_a }
 
   abbrev tally : Command → Tally → Tally
@@ -230,20 +230,20 @@ module _ (m : Monitor) where
         b = milliseconds_of d
 
         by : (p q j k : Option ℕ) → tallied p j a (tallied q k b x) ≡ tallied q k b (tallied p j a x)
-        by (some n) (some i) j k = any-counters i n b a x (ℕ_discrete i n)
-        by (some n) none j k = refl
-        by none (some i) j k = refl
-        by none none none k = refl
-        by none none (some j) none = refl
-        by none none (some j) (some k) = rw (more-apart x.below_a k j)
+        by (Some n) (Some i) j k = any-counters i n b a x (ℕ_discrete i n)
+        by (Some n) None j k = refl
+        by None (Some i) j k = refl
+        by None None None k = refl
+        by None None (Some j) None = refl
+        by None None (Some j) (Some k) = rw (more-apart x.below_a k j)
 
 -- a call that may be turned away, on a record with its debug log and without
 either_way :
     (o : Option ℕ) (m r s : Monitor) →
     without_debug_log r ≡ without_debug_log s →
     without_debug_log (untouched_if o m r) ≡ without_debug_log (untouched_if o (without_debug_log m) s)
-either_way none m r s e = e
-either_way (some n) m r s e = refl
+either_way None m r s e = e
+either_way (Some n) m r s e = refl
 
 one-call : (m : Monitor) (c : Call) → without_debug_log (after c m) ≡ without_debug_log (after c (without_debug_log m))
 unfolding after_settings after_completion after_elapsed after_clock after_power_up
@@ -254,8 +254,8 @@ one-call m (completion c) = by (counter_of m.settings c) refl
         (o : Option ℕ) →
         counter_of m.settings c ≡ o →
         without_debug_log (after_completion m c) ≡ without_debug_log (after_completion (without_debug_log m) c)
-    by none e = rw e
-    by (some n) e = rw e
+    by None e = rw e
+    by (Some n) e = rw e
 one-call m (elapsed ms) = either_way (elapsed_refusal ms) m _ _ refl
 one-call m (clock value) = either_way (clock_refusal value) m _ _ refl
 one-call m power_up = refl
@@ -298,8 +298,8 @@ module _ (m : Monitor) where
             (o : Option ℕ) →
             counter_of m.settings c ≡ o →
             without_debug_log (after_completion (with-tally x) c) ≡ with-tally (tally m c x)
-        by none e = rw e
-        by (some n) e = rw (e, load_is x n (milliseconds_of c) (counter-below m.settings c n e))
+        by None e = rw e
+        by (Some n) e = rw (e, load_is x n (milliseconds_of c) (counter-below m.settings c n e))
 
     all-tallied : (cs : List Command) → without_debug_log (after_completions m cs) ≡ with-tally (foldr (tally m) own-tally cs)
     unfolding play_from

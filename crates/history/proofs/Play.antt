@@ -3,7 +3,7 @@ use Prim.Native.Nat.{ℕ, ◌+◌, ◌*◌, ◌-◌, ◌/◌, ◌%◌, ◌≤◌
 use mathlib.Core.Path.{◌≡◌, refl, sym, ap, ◌∙◌}
 use mathlib.Core.Bool.{Bool, true, false, cond}
 use mathlib.Core.List.{List, [], ◌∷◌}
-use mathlib.Core.Option.{Option, none, some}
+use Rattle.std.specs.Prelude.{Option, None, Some}
 use native.Mathlib.Nat.{zero-div, zero-mul}
 use native.Mathlib.Omega.{arith}
 use lib.Dec.{eqb, ltb}
@@ -25,7 +25,7 @@ use Rattle.monitor.specs.Record.{new_monitor, after_settings, after_elapsed, ela
 use Rattle.rules.specs.Refusals.{settings_refusal, elapsed_refusal, clock_refusal, page_refusal, settings_back_refusal}
 use Rattle.rules.specs.Settings.{decoded, discard}
 use Rattle.monitor.proofs.Laws.{configured as reset, settings-accepted}
-use Rattle.rules.proofs.refusals.Laws.{accepted, elapsed-fits, clock-fits}
+use Rattle.rules.proofs.Refusals.{accepted, elapsed-fits, clock-fits}
 use Rattle.history.proofs.Completions.{completion-step}
 use Rattle.history.proofs.Elapsed.{elapsed-step, elapsed-answer}
 use Rattle.history.proofs.Facts.{Ok, Good, described}
@@ -88,7 +88,7 @@ module _ (past : Past) (s : List ℕ) where
   emptied-or-kept true = rw (zero-div (300000 * (decoded s).timer_threshold), zero-mul (decoded s).timer_threshold)
   emptied-or-kept false = refl
 
-  settings-step : settings_refusal s ≡ none → after_settings (record_of past) s ≡ record_of (configured s ∷ past)
+  settings-step : settings_refusal s ≡ None → after_settings (record_of past) s ≡ record_of (configured s ∷ past)
   unfolding record_of
   settings-step e =
       sym (settings-accepted (record_of past) s (decoded s) (cond (eqb (discard s) 1) no_debug_log (debug_at past))
@@ -123,19 +123,19 @@ new-step = refl
 
 -- a refused call
 module _ (m : Monitor) (n : ℕ) where
-  settings-kept : (s : List ℕ) → settings_refusal s ≡ some n → after_settings m s ≡ m
+  settings-kept : (s : List ℕ) → settings_refusal s ≡ Some n → after_settings m s ≡ m
   unfolding after_settings
   settings-kept s e = rw e
 
-  elapsed-kept : (ms : ℕ) → elapsed_refusal ms ≡ some n → after_elapsed m ms ≡ m
+  elapsed-kept : (ms : ℕ) → elapsed_refusal ms ≡ Some n → after_elapsed m ms ≡ m
   unfolding after_elapsed
   elapsed-kept ms e = rw e
 
-  elapsed-refused : (ms : ℕ) → elapsed_refusal ms ≡ some n → elapsed_answer m ms ≡ refused n
+  elapsed-refused : (ms : ℕ) → elapsed_refusal ms ≡ Some n → elapsed_answer m ms ≡ refused n
   unfolding elapsed_answer
   elapsed-refused ms e = rw e
 
-  clock-kept : (value : ℕ) → clock_refusal value ≡ some n → after_clock m value ≡ m
+  clock-kept : (value : ℕ) → clock_refusal value ≡ Some n → after_clock m value ≡ m
   unfolding after_clock
   clock-kept value e = rw e
 
@@ -146,31 +146,31 @@ Step past c r e = Ok (if_accepted r e) × (after c (record_of past) ≡ record_o
 reads :
     (past : Past) (r : Option ℕ) →
     Ok (if_accepted r nothing) × (record_of past ≡ record_of (if_accepted r nothing ∷ past))
-reads past none = (tt, nothing-step past)
-reads past (some n) = (tt, nothing-step past)
+reads past None = (tt, nothing-step past)
+reads past (Some n) = (tt, nothing-step past)
 
 step : (past : Past) → Good past → (c : Call) → Step past c (refusal_of c) (asked c)
 unfolding Step
 step past g (settings s) = by (settings_refusal s) refl
   where
     by : (r : Option ℕ) → settings_refusal s ≡ r → Step past (settings s) r (configured s)
-    by none e = ((accepted s e).timed, settings-step past s e)
-    by (some n) e = (tt, settings-kept (record_of past) n s e ∙ nothing-step past)
+    by None e = ((accepted s e).timed, settings-step past s e)
+    by (Some n) e = (tt, settings-kept (record_of past) n s e ∙ nothing-step past)
 step past g (completion c) = (tt, completion-step past g c)
 step past g (elapsed ms) = by (elapsed_refusal ms) refl
   where
     by : (r : Option ℕ) → elapsed_refusal ms ≡ r → Step past (elapsed ms) r (passed ms)
-    by none e = (elapsed-fits ms e, elapsed-step past g ms (elapsed-fits ms e))
-    by (some n) e = (tt, elapsed-kept (record_of past) n ms e ∙ nothing-step past)
+    by None e = (elapsed-fits ms e, elapsed-step past g ms (elapsed-fits ms e))
+    by (Some n) e = (tt, elapsed-kept (record_of past) n ms e ∙ nothing-step past)
 step past g (clock value) = by (clock_refusal value) refl
   where
     by : (r : Option ℕ) → clock_refusal value ≡ r → Step past (clock value) r (clock_set value)
-    by none e = (clock-fits value e, clock-step past value (clock-fits value e))
-    by (some n) e = (tt, clock-kept (record_of past) n value e ∙ nothing-step past)
+    by None e = (clock-fits value e, clock-step past value (clock-fits value e))
+    by (Some n) e = (tt, clock-kept (record_of past) n value e ∙ nothing-step past)
 step past g power_up = (tt, power-up-step past)
 step past g (page k) = reads past (page_refusal k)
 step past g (settings_back k) = reads past (settings_back_refusal k)
-step past g (below_a w) = reads past none
+step past g (below_a w) = reads past None
 
 pub good : (h : History) → Good (past_of h)
 unfolding Step
@@ -190,5 +190,5 @@ window-ends h ms = ap (λ m. elapsed_answer m ms) (played-as-facts h) ∙ by (el
         elapsed_refusal ms ≡ r →
         elapsed_answer (record_of (past_of h)) ms ≡
         unless_refused r (ended (ltb (window_at (past_of h)) (window_at (if_accepted r (passed ms) ∷ past_of h))))
-    by none e = elapsed-answer (past_of h) (good h) ms (elapsed-fits ms e)
-    by (some n) e = elapsed-refused (record_of (past_of h)) n ms e
+    by None e = elapsed-answer (past_of h) (good h) ms (elapsed-fits ms e)
+    by (Some n) e = elapsed-refused (record_of (past_of h)) n ms e

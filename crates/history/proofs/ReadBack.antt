@@ -3,7 +3,7 @@ use Prim.Native.Nat.{ℕ, ◌≤◌, ◌<◌, ◌^◌}
 use mathlib.Core.Path.{◌≡◌, refl, sym, ap, ◌∙◌}
 use mathlib.Core.Bool.{Bool, true, false, cond, ◌||◌}
 use mathlib.Core.List.{List, [], ◌∷◌}
-use mathlib.Core.Option.{Option, none, some}
+use Rattle.std.specs.Prelude.{Option, None, Some}
 use native.Mathlib.Omega.{arith}
 use lib.Dec.{ltb}
 use lib.Pow.{pow-lt}
@@ -50,15 +50,15 @@ unfolding in_force no_settings
 masks-fit past sound = by (latest settings_in past) (latest-some Sound settings_in past sound)
   where
     by : (o : Option (List ℕ)) → Some Sound o → MasksFit (found no_settings decoded o)
-    by none k = (refl, refl)
-    by (some s) k = both-within (decoded s).mode (decoded s).trigger k.accepted.masks
+    by None k = (refl, refl)
+    by (Some s) k = both-within (decoded s).mode (decoded s).trigger k.accepted.masks
 
 -- a counter: nothing is shown without a load, and only a counter without completions has none
-a-load : (x : Counted) (o : Option Counted) → or_load x o ≡ none → ⊥
-a-load x none e = let never : ◌≡◌ {A = ℕ} 0 1 = cc in omega arith
-a-load x (some y) e = by (loads_after x y) e
+a-load : (x : Counted) (o : Option Counted) → or_load x o ≡ None → ⊥
+a-load x None e = let never : ◌≡◌ {A = ℕ} 0 1 = cc in omega arith
+a-load x (Some y) e = by (loads_after x y) e
   where
-    by : (t : Bool) → cond t (some x) (some y) ≡ none → ⊥
+    by : (t : Bool) → cond t (Some x) (Some y) ≡ None → ⊥
     by true k = let never : ◌≡◌ {A = ℕ} 0 1 = cc in omega arith
     by false k = let never : ◌≡◌ {A = ℕ} 0 1 = cc in omega arith
 
@@ -73,10 +73,10 @@ counter-fits (x ∷ xs) = by (or_load x (last_load xs)) refl
         (o : Option Counted) →
         or_load x (last_load xs) ≡ o →
         counter_fits (count_of (x ∷ xs)) (stamp_of o) (latency_of o) (units_of o) ≡ true
-    by none e = absurd (a-load x (last_load xs) e)
-    by (some y) e =
+    by None e = absurd (a-load x (last_load xs) e)
+    by (Some y) e =
         let top = clock-top y.before in
-        rw (ne_eqb (stamp_of (some y)) unset (λ u. omega arith), lt-ltb (stamp_of (some y)) 281474976710656 (omega arith))
+        rw (ne_eqb (stamp_of (Some y)) unset (λ u. omega arith), lt-ltb (stamp_of (Some y)) 281474976710656 (omega arith))
 
 window-keeps : (completions : ℕ → List Counted) → window_fits (window_from completions) ≡ true
 unfolding window_fits
@@ -100,8 +100,8 @@ debug-keeps past =
     (first_some OfTwelve _ (all-those triggered (λ x t k. k) _ (since-all OfTwelve discard_in counted_at few past)))
   where
     by : (o : Option Counted) → Some OfTwelve o → debug_fits (found no_debug_log log_of o) ≡ true
-    by none k = refl
-    by (some x) k =
+    by None k = refl
+    by (Some x) k =
         let top = clock-top x.before in
         rw (
           ne_eqb (log_of x).stamp unset (λ u. omega arith),

@@ -1,6 +1,6 @@
 -- What is claimed of every history. The proofs are in proofs/.
 use Rattle.std.specs.Prelude.{◌≡◌, List, ◌∷◌, ◌↔◌, false, ℕ, ◌+◌, ◌*◌, ◌%◌, ◌<◌, ltb, length, get_or, set, replicate}
-use Rattle.std.proofs.Math.Option.{Option, none, some}
+use Rattle.std.specs.Prelude.{Option, None, Some}
 use Rattle.logpage.specs.Page.{page_bytes}
 use Rattle.logpage.specs.Reader.{shown, read_refusal, reading_of}
 use Rattle.window.specs.Fields.{from, each}
@@ -63,7 +63,7 @@ abbrev pub PageReadBack : Type 0
 PageReadBack =
     (h : History) →
     OfBytes h →
-    (read_refusal (page_of (play h)) ≡ none) × (reading_of (page_of (play h)) ≡ shown (facts_of (past_of h)))
+    (read_refusal (page_of (play h)) ≡ None) × (reading_of (page_of (play h)) ≡ shown (facts_of (past_of h)))
 
 -- Demand 2, the settings given back: they are the settings table, filled with the settings in force
 abbrev pub SettingsShowFacts : Type 0
@@ -137,7 +137,7 @@ FiveCountsAddUp =
 
 -- 02, Ticket 4: whatever its opcode, a completion without the deallocate attribute or bit is never Deallocate, kind 2
 abbrev pub NeverDeallocate : Type 0
-NeverDeallocate = (c : Command) → c.deallocate ≡ false → kind_of c ≡ some 2 → ⊥
+NeverDeallocate = (c : Command) → c.deallocate ≡ false → kind_of c ≡ Some 2 → ⊥
 
 -- 02, Ticket 4: where no completion has the deallocate attribute or bit, nothing is counted as Deallocate in either
 -- window

@@ -1,6 +1,6 @@
 -- 01, At the edges: the cases P1 to P12 as one table, with one claim about its rows.
 use Rattle.std.specs.Prelude.{◌≡◌, Bool, true, false, List, [], ◌∷◌, ℕ, ◌+◌, ◌*◌, get_or, take, drop}
-use Rattle.std.proofs.Math.Option.{Option, none, some}
+use Rattle.std.specs.Prelude.{Option, None, Some}
 use Rattle.endian.specs.Stores.{low_first}
 use Rattle.logpage.specs.Page.{page_bytes}
 use Rattle.logpage.specs.declared.page.LogPage.{LogPage}
@@ -50,8 +50,8 @@ pub data Edge : Type 0 where
 
 -- the Read counter of a bucket is 3 × bucket; its first completion loads the stamp
 abbrev pub read_answer : Option ℕ → CallAnswer
-read_answer none = not_counted
-read_answer (some b) = counted (3 * b) true false
+read_answer None = not_counted
+read_answer (Some b) = counted (3 * b) true false
 
 abbrev pub ended_answers : List Bool → List CallAnswer
 ended_answers [] = []
@@ -68,15 +68,15 @@ Holds (stamp_at b k place) =
 
 abbrev pub edges : List Edge
 edges =
-    bucket usual 4999 none  -- P1
-    ∷ bucket usual 5000 (some 0)  -- P2
-    ∷ bucket usual 9999 (some 0)  -- P3
-    ∷ bucket usual 10000 (some 1)  -- P4
-    ∷ bucket usual 49999 (some 2)  -- P5
-    ∷ bucket usual 50000 (some 3)  -- P6
+    bucket usual 4999 None  -- P1
+    ∷ bucket usual 5000 (Some 0)  -- P2
+    ∷ bucket usual 9999 (Some 0)  -- P3
+    ∷ bucket usual 10000 (Some 1)  -- P4
+    ∷ bucket usual 49999 (Some 2)  -- P5
+    ∷ bucket usual 50000 (Some 3)  -- P6
     ∷ measures 4294967295 3 65535  -- P7
     ∷ measures 7999 0 7  -- P8
-    ∷ bucket (1 ∷ 1 ∷ 3 ∷ 9 ∷ []) 10000 (some 1)  -- P9
+    ∷ bucket (1 ∷ 1 ∷ 3 ∷ 9 ∷ []) 10000 (Some 1)  -- P9
     ∷ ends 1 (299999 ∷ 1 ∷ []) (false ∷ true ∷ [])  -- P10
     ∷ stamp_at 3 0 112  -- P11
     ∷ stamp_at 0 2 168  -- P12

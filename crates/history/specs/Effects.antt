@@ -1,6 +1,6 @@
 -- What the calls of a history did, the newest first, and how a fact is asked of it.
 use Rattle.std.specs.Prelude.{Bool, true, false, List, [], ◌∷◌, map, ℕ}
-use Rattle.std.proofs.Math.Option.{Option, none, some}
+use Rattle.std.specs.Prelude.{Option, None, Some}
 use Rattle.endian.specs.Bytes.{Bytes}
 use Rattle.rules.specs.declared.commands.Command.{Command}
 use Rattle.monitor.specs.Calls.{Call, settings, completion, elapsed, clock, power_up, page, settings_back, below_a}
@@ -16,8 +16,8 @@ pub data Effect : Type 0 where
   nothing : Effect
 
 abbrev pub if_accepted : Option ℕ → Effect → Effect
-if_accepted (some n) e = nothing
-if_accepted none e = e
+if_accepted (Some n) e = nothing
+if_accepted None e = e
 
 abbrev pub asked : Call → Effect
 asked (settings s) = configured s
@@ -47,46 +47,46 @@ pub record ClockSetting : Type 0 where
 
 -- what each effect brings
 abbrev pub settings_in : Effect → Option (List ℕ)
-settings_in (configured s) = some s
-settings_in (completed c) = none
-settings_in (passed ms) = none
-settings_in (clock_set value) = none
-settings_in powered_up = none
-settings_in nothing = none
+settings_in (configured s) = Some s
+settings_in (completed c) = None
+settings_in (passed ms) = None
+settings_in (clock_set value) = None
+settings_in powered_up = None
+settings_in nothing = None
 
 abbrev pub completion_in : Effect → Option Command
-completion_in (configured s) = none
-completion_in (completed c) = some c
-completion_in (passed ms) = none
-completion_in (clock_set value) = none
-completion_in powered_up = none
-completion_in nothing = none
+completion_in (configured s) = None
+completion_in (completed c) = Some c
+completion_in (passed ms) = None
+completion_in (clock_set value) = None
+completion_in powered_up = None
+completion_in nothing = None
 
 abbrev pub elapsed_in : Effect → Option ℕ
-elapsed_in (configured s) = none
-elapsed_in (completed c) = none
-elapsed_in (passed ms) = some ms
-elapsed_in (clock_set value) = none
-elapsed_in powered_up = none
-elapsed_in nothing = none
+elapsed_in (configured s) = None
+elapsed_in (completed c) = None
+elapsed_in (passed ms) = Some ms
+elapsed_in (clock_set value) = None
+elapsed_in powered_up = None
+elapsed_in nothing = None
 
 abbrev pub clock_in : Effect → Option ClockSetting
-clock_in (configured s) = none
-clock_in (completed c) = none
-clock_in (passed ms) = none
-clock_in (clock_set value) = some (record { value = value; set_by_host = true })
-clock_in powered_up = some (record { value = 0; set_by_host = false })
-clock_in nothing = none
+clock_in (configured s) = None
+clock_in (completed c) = None
+clock_in (passed ms) = None
+clock_in (clock_set value) = Some (record { value = value; set_by_host = true })
+clock_in powered_up = Some (record { value = 0; set_by_host = false })
+clock_in nothing = None
 
 -- what f finds at the latest place where it finds anything
 unfoldable pub latest : {A : Type 0} → (Effect → Option A) → Past → Option A
-latest f [] = none
+latest f [] = None
 latest f (e ∷ past) = or_else (f e) (latest f past)
 
 -- what f finds at each place since the latest where `start` finds anything, the newest first
 abbrev pub unless_found : {A B : Type 0} → Option B → List A → List A
-unless_found none xs = xs
-unless_found (some x) xs = []
+unless_found None xs = xs
+unless_found (Some x) xs = []
 
 unfoldable pub since : {A B : Type 0} → (Effect → Option B) → (Effect → Past → Option A) → Past → List A
 since start f [] = []

@@ -1,7 +1,7 @@
 -- 01, The facts of a history: all of this file but what is marked 02. Each fact is asked at a place, of what was done
 -- before it.
 use Rattle.std.specs.Prelude.{Bool, false, cond, ◌&&◌, List, [], ◌∷◌, ℕ, ◌+◌, ◌-◌, ◌*◌, ◌/◌, min, eqb, leb, ltb, length}
-use Rattle.std.proofs.Math.Option.{Option, none, some}
+use Rattle.std.specs.Prelude.{Option, None, Some}
 use Rattle.logpage.specs.Fields.{no_settings, no_debug_log}
 use Rattle.window.specs.Fields.{unset, from, each}
 use Rattle.logpage.specs.declared.page.LogPage.{LogPage}
@@ -29,7 +29,7 @@ sum (x ∷ xs) = sum xs + x
 
 -- no effect is the start: what is found since it is found since the start
 abbrev pub start : Effect → Option ℕ
-start e = none
+start e = None
 
 -- time: all elapsed time that was accepted
 abbrev pub elapsed_at : Effect → Past → Option ℕ
@@ -50,7 +50,7 @@ host_set_at past = found false (λ (set : ClockSetting). set.set_by_host) (lates
 
 -- settings that enable the monitor
 abbrev pub enabling_in : Effect → Option Settings
-enabling_in e = found none (λ s. only_if (decoded s).enabled (decoded s)) (settings_in e)
+enabling_in e = found None (λ s. only_if (decoded s).enabled (decoded s)) (settings_in e)
 
 -- the timer threshold of the latest settings that enable (document 01: p)
 unfoldable pub timer_threshold_of : Past → ℕ
@@ -58,7 +58,7 @@ timer_threshold_of past = found 0 (λ (s : Settings). s.timer_threshold) (latest
 
 -- the elapsed time since those settings, without what passed while disabled (document 01: t)
 abbrev pub while_enabled : Effect → Past → Option ℕ
-while_enabled e past = found none (only_if (in_force past).enabled) (elapsed_in e)
+while_enabled e past = found None (only_if (in_force past).enabled) (elapsed_in e)
 
 unfoldable pub enabled_time : Past → ℕ
 enabled_time past = sum (since enabling_in while_enabled past)
@@ -82,10 +82,10 @@ pub record Completed : Type 0 where
 -- by whether the monitor is enabled at the place, and the kind of the command
 abbrev pub completed_if : Bool → Option ℕ → Command → Past → Option Completed
 completed_if enabled kind c past =
-    found none (λ k. only_if enabled (record { kind = k; command = c; before = past })) kind
+    found None (λ k. only_if enabled (record { kind = k; command = c; before = past })) kind
 
 abbrev pub completed_at : Effect → Past → Option Completed
-completed_at e past = found none (λ c. completed_if (in_force past).enabled (kind_of c) c past) (completion_in e)
+completed_at e past = found None (λ c. completed_if (in_force past).enabled (kind_of c) c past) (completion_in e)
 
 -- all of them since the latest settings that enable, the newest first; those settings are the latest such ones at each
 -- of their places too, so the numbers of windows can be compared
@@ -100,11 +100,11 @@ pub record Counted : Type 0 where
 
 abbrev pub counted_of : Completed → Option Counted
 counted_of x =
-    found none (λ n. some (record { counter = n; command = x.command; before = x.before }))
+    found None (λ n. Some (record { counter = n; command = x.command; before = x.before }))
     (counter_of (in_force x.before) x.command)
 
 abbrev pub counted_at : Effect → Past → Option Counted
-counted_at e past = found none counted_of (completed_at e past)
+counted_at e past = found None counted_of (completed_at e past)
 
 -- what f finds of the entries of a list
 unfoldable pub filter_map : {A B : Type 0} → (A → Option B) → List A → List B
@@ -164,11 +164,11 @@ loads_after x load =
     leb (100 * (in_force x.before).minimum_window) (time x.before - time load.before))
 
 abbrev pub or_load : Counted → Option Counted → Option Counted
-or_load x none = some x
-or_load x (some load) = cond (loads_after x load) (some x) (some load)
+or_load x None = Some x
+or_load x (Some load) = cond (loads_after x load) (Some x) (Some load)
 
 unfoldable pub last_load : List Counted → Option Counted
-last_load [] = none
+last_load [] = None
 last_load (x ∷ earlier) = or_load x (last_load earlier)
 
 -- what the last load left: the clock at its place (stamp), its ms (document 01: shown latency), and whether the host
@@ -195,17 +195,17 @@ window_from completions =
 -- the debug log (document 01: debug record): that of the earliest counted completion with its trigger on since the last
 -- discard
 abbrev pub discard_in : Effect → Option (List ℕ)
-discard_in e = found none (λ s. only_if (eqb (discard s) 1) s) (settings_in e)
+discard_in e = found None (λ s. only_if (eqb (discard s) 1) s) (settings_in e)
 
 abbrev pub triggered : Counted → Bool
 triggered x = bit (in_force x.before).trigger x.counter
 
 abbrev pub or_earliest : Counted → Option Counted → Option Counted
-or_earliest x none = some x
-or_earliest x (some y) = some y
+or_earliest x None = Some x
+or_earliest x (Some y) = Some y
 
 unfoldable pub earliest : List Counted → Option Counted
-earliest [] = none
+earliest [] = None
 earliest (x ∷ earlier) = or_earliest x (earliest earlier)
 
 abbrev pub log_of : Counted → DebugLog

@@ -20,9 +20,7 @@ fn buffer() -> [u8; ROOM]
 // Prints the listing, or says on standard error that it could not.
 fn print<W: Write, E: Write>(page: &[u8], output: &mut W, errors: &mut E) {
     let listing = text::page_listing(page);
-    let bytes = listing.bytes;
-    let len = listing.len;
-    if let Err(why) = output.write_all(&bytes[..len]) {
+    if let Err(why) = output.write_all(listing.as_str().as_bytes()) {
         streams::fail_to_write(errors, b"listing: cannot write", why);
     }
 }
@@ -31,10 +29,9 @@ fn print<W: Write, E: Write>(page: &[u8], output: &mut W, errors: &mut E) {
 fn run<R: Read, W: Write, E: Write>(input: &mut R, output: &mut W, errors: &mut E) {
     let mut page = buffer();
     let filled = streams::fill(input, &mut page);
-    let n = filled.n;
     match filled.failed {
         Some(why) => streams::fail(errors, b"listing: cannot read", why),
-        None => print(&page[..n], output, errors),
+        None => print(&page[..filled.n], output, errors),
     }
 }
 

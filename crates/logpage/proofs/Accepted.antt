@@ -1,7 +1,7 @@
 -- What is accepted is written again as the same bytes.
 use mathlib.Core.Bool.{Bool, true, false, not, cond, true≢false}
 use mathlib.Core.List.{List, [], ◌∷◌, ◌++◌}
-use mathlib.Core.Option.{none}
+use Rattle.std.specs.Prelude.{None}
 use mathlib.Core.Path.{◌≡◌, refl, sym, ◌∙◌}
 use Prim.Native.Nat.{ℕ, ◌+◌, ◌≤◌}
 use native.Mathlib.Omega.{arith}
@@ -32,7 +32,7 @@ split-part : (l : List ℕ) (at n m : ℕ) → part at (n + m) l ≡ part at n l
 split-part l at n m = take-add n m (drop at l) ∙ rw (drop-drop n at l)
 
 -- what an accepted page keeps
-module _ (page : List ℕ) (ok : read_refusal page ≡ none) where
+module _ (page : List ℕ) (ok : read_refusal page ≡ None) where
   rows :
       (not (eqb (length page) 512) ≡ false) × (not (identified page) ≡ false) × (not (page_fits page) ≡ false)
   unfolding read_refusal

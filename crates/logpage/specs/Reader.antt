@@ -1,6 +1,7 @@
 -- 02, Ticket 1: a page read back, and the rules by which it is turned away.
 use Rattle.std.specs.Prelude.{Bool, false, not, cond, List, [], ◌∷◌, ℕ, ◌<◌, ◌^◌, eqb, ltb, length, get_or}
-use Rattle.std.proofs.Math.Option.{Option, none, some}
+use Rattle.std.specs.Prelude.{Option, None, Some, Result, Ok, Err}
+use Rattle.refusals.specs.declared.Refusal.{Refusal}
 use Rattle.std.specs.Int.Count.{ones, count_trailing_zeros}
 use Rattle.endian.specs.Loads.{part, values_at}
 use Rattle.logpage.specs.Answers.{row}
@@ -134,15 +135,20 @@ identified page =
 
 -- where a page is turned away: rows 13 to 15, the earliest first
 abbrev pub layout_refusal : List ℕ → Option ℕ
-layout_refusal page = row 15 (not (page_fits page)) none
+layout_refusal page = row 15 (not (page_fits page)) None
 
 unfoldable pub read_refusal : List ℕ → Option ℕ
 read_refusal page = row 13 (not (eqb (length page) 512)) (row 14 (not (identified page)) (layout_refusal page))
 
--- what is handed back: what the page shows, or what a new monitor's page shows
+-- what is handed back; where a page is turned away, that stands for what a new monitor's page shows
+abbrev pub reading_in : Result Reading Refusal → Reading
+reading_in (Ok reading) = reading
+reading_in (Err refusal) = no_reading
+
+-- what the page shows, or what a new monitor's page shows
 abbrev pub reading_after : Option ℕ → List ℕ → Reading
-reading_after none page = shown (fields_in page)
-reading_after (some n) page = no_reading
+reading_after None page = shown (fields_in page)
+reading_after (Some n) page = no_reading
 
 unfoldable pub reading_of : List ℕ → Reading
 reading_of page = reading_after (read_refusal page) page

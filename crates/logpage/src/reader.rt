@@ -1,15 +1,15 @@
 // Log page C3h read back (document 02, Ticket 1): what it shows, or why it is turned away.
 ghost use Rattle.std.specs.Prelude.{◌≡◌, length};
-ghost use Rattle.logpage.specs.Answers.{refusal_in};
+ghost use Rattle.refusals.specs.Refusals.{refusal_in};
 ghost use Rattle.logpage.specs.Page.{head_widths, tail_widths};
 ghost use Rattle.logpage.specs.Reader.{head_in, tail_in, identity_in, identified, Bounded, settings_from, debug_from};
 ghost use Rattle.logpage.specs.Reader.{debug_counter_of, shown, no_reading, head_fits, tail_fits, debug_fits, page_keeps};
-ghost use Rattle.logpage.specs.Reader.{layout_refusal, reading_after, read_refusal, reading_of};
+ghost use Rattle.logpage.specs.Reader.{layout_refusal, reading_in, reading_after, read_refusal, reading_of};
 
-use crate::answers::Answer;
 use crate::fields::{DebugLog, Settings};
+use crate::page;
 use crate::page::LogPage;
-use crate::{page, refusals};
+use refusals::Refusal;
 use window::{UNSET, Window, block_reader};
 
 // What a page shows. The page has the debug log's counter as one set bit; its number stands beside, 0 where none is
@@ -20,13 +20,6 @@ pub struct Reading {
     pub page: LogPage,
     pub debug_held: bool,
     pub debug_counter: u8,
-}
-
-// A page that was read. One that is turned away shows what a new monitor's page does.
-#[derive(Clone, Copy)]
-pub struct PageRead {
-    pub answer: Answer,
-    pub reading: Reading,
 }
 
 impl Reading {
@@ -53,27 +46,38 @@ impl Reading {
     }
 }
 
-// The fields of bytes 0 to 12, of 448 to 464, and of 494 to 511.
-fn head_in(page: &[u8]) -> [u64; 10]
-    requires { length page.now ≡ 512 }
-    ensures { result ≡ head_in page.now }
+// The values of bytes 0 to 12, none with more bytes than its field.
+#[derive(Clone, Copy)]
+struct Head {
+    values: [u64; 10],
+    ghost bounded: { Bounded head_widths values },
+}
+
+// The values of bytes 448 to 464, likewise.
+#[derive(Clone, Copy)]
+struct Tail {
+    values: [u64; 6],
+    ghost bounded: { Bounded tail_widths values },
+}
+
+fn head_in(page: &[u8; 512]) -> Head
+    ensures { result.values ≡ head_in page.now }
 {
     let mut values = [0; 10];
     endian::load_fields(&page[0..13], &page::HEAD_WIDTHS, &mut values);
-    values
+    Head { values }
 }
 
-fn tail_in(page: &[u8]) -> [u64; 6]
-    requires { length page.now ≡ 512 }
-    ensures { result ≡ tail_in page.now }
+fn tail_in(page: &[u8; 512]) -> Tail
+    ensures { result.values ≡ tail_in page.now }
 {
     let mut values = [0; 6];
     endian::load_fields(&page[448..465], &page::TAIL_WIDTHS, &mut values);
-    values
+    Tail { values }
 }
 
-fn identity_in(page: &[u8]) -> [u64; 3]
-    requires { length page.now ≡ 512 }
+// Log Page Version, and the two halves of the GUID.
+fn identity_in(page: &[u8; 512]) -> [u64; 3]
     ensures { result ≡ identity_in page.now }
 {
     let mut values = [0; 3];
@@ -82,8 +86,7 @@ fn identity_in(page: &[u8]) -> [u64; 3]
 }
 
 // Whether version and GUID are the page's.
-fn identified(page: &[u8]) -> bool
-    requires { length page.now ≡ 512 }
+fn identified(page: &[u8; 512]) -> bool
     ensures { result ≡ identified page.now }
 {
     let found = identity_in(page);
@@ -91,10 +94,11 @@ fn identified(page: &[u8]) -> bool
     (found[0] == identity[0]) & (found[1] == identity[1]) & (found[2] == identity[2])
 }
 
-fn settings_from(head: [u64; 10], tail: [u64; 6]) -> Settings
-    requires { Bounded head_widths head × Bounded tail_widths tail }
-    ensures { result ≡ settings_from head tail }
+fn settings_from(head: Head, tail: Tail) -> Settings
+    ensures { result ≡ settings_from head.values tail.values }
 {
+    let head = head.values;
+    let tail = tail.values;
     let thresholds = [head[4] as u8, head[5] as u8, head[6] as u8, head[7] as u8];
     Settings {
         timer_threshold: head[3] as u16,
@@ -106,10 +110,10 @@ fn settings_from(head: [u64; 10], tail: [u64; 6]) -> Settings
     }
 }
 
-fn debug_from(tail: [u64; 6]) -> DebugLog
-    requires { Bounded tail_widths tail }
-    ensures { result ≡ debug_from tail }
+fn debug_from(tail: Tail) -> DebugLog
+    ensures { result ≡ debug_from tail.values }
 {
+    let tail = tail.values;
     DebugLog {
         stamp: tail[2],
         latency: tail[1] as u16,
@@ -125,8 +129,8 @@ fn debug_fits(d: DebugLog) -> bool
         (d.latency == 0) & (d.source == 0) & !d.units
     } else {
         (d.stamp < block_reader::CLOCK_END)
-            & (u16::count_ones(d.source) == 1)
-            & ((d.source as u64) < block_reader::MASK_END)
+            & (d.source.count_ones() == 1)
+            & (u64::from(d.source) < block_reader::MASK_END)
     }
 }
 
@@ -137,48 +141,49 @@ fn debug_counter(d: DebugLog) -> u8
     if d.stamp == UNSET {
         0
     } else {
-        u16::trailing_zeros(d.source) as u8
+        d.source.trailing_zeros() as u8
     }
 }
 
-// What a page with these fields shows.
-fn shown(p: LogPage) -> Reading
-    ensures { result ≡ shown p }
-{
-    let d = p.debug;
-    Reading {
-        page: p,
-        debug_held: d.stamp != UNSET,
-        debug_counter: debug_counter(d),
+impl From<LogPage> for Reading {
+    ghost from_gives = { λ page reading. reading ≡ shown page };
+
+    fn from(page: LogPage) -> Reading {
+        let debug = page.debug;
+        Reading {
+            page,
+            debug_held: debug.stamp != UNSET,
+            debug_counter: debug_counter(debug),
+        }
     }
 }
 
-fn head_fits(head: [u64; 10]) -> bool
-    ensures { result ≡ head_fits head }
+fn head_fits(head: Head) -> bool
+    ensures { result ≡ head_fits head.values }
 {
+    let head = head.values;
     (head[0] < 2) & (head[1] == 0) & (head[8] < block_reader::MASK_END)
 }
 
-fn tail_fits(tail: [u64; 6]) -> bool
-    requires { Bounded tail_widths tail }
-    ensures { result ≡ tail_fits tail }
+fn tail_fits(tail: Tail) -> bool
+    ensures { result ≡ tail_fits tail.values }
 {
-    (tail[0] < block_reader::MASK_END)
-        & (tail[3] == 0)
-        & (tail[5] < 2)
+    let values = tail.values;
+    (values[0] < block_reader::MASK_END)
+        & (values[3] == 0)
+        & (values[5] < 2)
         & debug_fits(debug_from(tail))
 }
 
 // Whether the layout's rules are kept, where the page's values and windows were read.
 fn keeps(
-    page: &[u8],
-    head: [u64; 10],
-    tail: [u64; 6],
+    page: &[u8; 512],
+    head: Head,
+    tail: Tail,
     active_window: Window,
     static_window: Window,
 ) -> bool
-    requires { (length page.now ≡ 512) × Bounded tail_widths tail }
-    ensures { result ≡ page_keeps page.now head tail active_window static_window }
+    ensures { result ≡ page_keeps page.now head.values tail.values active_window static_window }
 {
     block_reader::keeps(&page[32..218], active_window)
         & block_reader::keeps(&page[240..426], static_window)
@@ -190,21 +195,10 @@ fn keeps(
         & !endian::any_set(&page[465..494])
 }
 
-fn refused(number: u8) -> PageRead
-    ensures { (result.answer ≡ Answer.Refused number) × (result.reading ≡ no_reading) }
-{
-    let reading = Reading::none();
-    PageRead {
-        answer: Answer::Refused(number),
-        reading,
-    }
-}
-
-// A page of 512 bytes with the right version and GUID.
-fn read_identified(page: &[u8]) -> PageRead
-    requires { length page.now ≡ 512 }
-    ensures answer { refusal_in result.answer ≡ layout_refusal page.now }
-    ensures reading { result.reading ≡ reading_after (layout_refusal page.now) page.now }
+// A page with the right version and GUID.
+fn read_identified(page: &[u8; 512]) -> Result<Reading, Refusal>
+    ensures answer { refusal_in result ≡ layout_refusal page.now }
+    ensures reading { reading_in result ≡ reading_after (layout_refusal page.now) page.now }
 {
     let head = head_in(page);
     let tail = tail_in(page);
@@ -213,7 +207,7 @@ fn read_identified(page: &[u8]) -> PageRead
     if keeps(page, head, tail, active_window, static_window) {
         let settings = settings_from(head, tail);
         let debug = debug_from(tail);
-        let timer = head[2] as u16;
+        let timer = head.values[2] as u16;
         let fields = LogPage {
             settings,
             timer,
@@ -221,30 +215,25 @@ fn read_identified(page: &[u8]) -> PageRead
             static_window,
             debug,
         };
-        let reading = shown(fields);
-        PageRead {
-            answer: Answer::Done,
-            reading,
-        }
+        Ok(Reading::from(fields))
     } else {
-        refused(refusals::READ_LAYOUT)
+        Err(Refusal::ReadLayout)
     }
 }
 
 impl LogPage {
     // Reads a page back.
-    pub fn read(page: &[u8]) -> PageRead
-        ensures answer { refusal_in result.answer ≡ read_refusal page.now }
-        ensures reading { result.reading ≡ reading_of page.now }
+    pub fn read(page: &[u8]) -> Result<Reading, Refusal>
+        ensures answer { refusal_in result ≡ read_refusal page.now }
+        ensures reading { reading_in result ≡ reading_of page.now }
     {
-        if page.len() == 512 {
-            if identified(page) {
+        match <&[u8; 512]>::try_from(page) {
+            Ok(page) => if identified(page) {
                 read_identified(page)
             } else {
-                refused(refusals::READ_IDENTITY)
-            }
-        } else {
-            refused(refusals::READ_LENGTH)
+                Err(Refusal::ReadIdentity)
+            },
+            Err(_) => Err(Refusal::ReadLength),
         }
     }
 }

@@ -1,6 +1,6 @@
 -- Calls, histories of calls, and the record that a history leaves.
 use Rattle.std.specs.Prelude.{Bool, false, cond, List, [], ◌∷◌, ◌≡◌, ℕ}
-use Rattle.std.proofs.Math.Option.{Option, none, some}
+use Rattle.std.specs.Prelude.{Option, None, Some}
 use Rattle.rules.specs.declared.commands.Command.{Command}
 use Rattle.monitor.specs.declared.record.Monitor.{Monitor}
 use Rattle.monitor.specs.declared.windows.WindowChoice.{WindowChoice}
@@ -60,32 +60,32 @@ play h = play_from new_monitor h
 -- the number of the row that turns a call away
 abbrev pub refusal_of : Call → Option ℕ
 refusal_of (settings s) = settings_refusal s
-refusal_of (completion c) = none
+refusal_of (completion c) = None
 refusal_of (elapsed ms) = elapsed_refusal ms
 refusal_of (clock value) = clock_refusal value
-refusal_of power_up = none
+refusal_of power_up = None
 refusal_of (page n) = page_refusal n
 refusal_of (settings_back n) = settings_back_refusal n
-refusal_of (below_a w) = none
+refusal_of (below_a w) = None
 
 -- something, if a test passes
 abbrev pub only_if : {A : Type 0} → Bool → A → Option A
-only_if test x = cond test (some x) none
+only_if test x = cond test (Some x) None
 
 -- f of what is there, else a default
 abbrev pub found : {A B : Type 0} → B → (A → B) → Option A → B
-found default f none = default
-found default f (some x) = f x
+found default f None = default
+found default f (Some x) = f x
 
 -- the first of two that is there
 abbrev pub or_else : {A : Type 0} → Option A → Option A → Option A
-or_else none earlier = earlier
-or_else (some x) earlier = some x
+or_else None earlier = earlier
+or_else (Some x) earlier = Some x
 
 -- one more entry, if it is there
 abbrev pub and_then : {A : Type 0} → Option A → List A → List A
-and_then none earlier = earlier
-and_then (some x) earlier = x ∷ earlier
+and_then None earlier = earlier
+and_then (Some x) earlier = x ∷ earlier
 
 -- a fact of each entry of a list
 abbrev pub All : {A : Type 0} → (A → Type 0) → List A → Type 0
@@ -94,14 +94,14 @@ All P (x ∷ xs) = P x × All P xs
 
 -- the command that a call brings, if it is a completion
 abbrev pub command_in : Call → Option Command
-command_in (settings s) = none
-command_in (completion c) = some c
-command_in (elapsed ms) = none
-command_in (clock value) = none
-command_in power_up = none
-command_in (page n) = none
-command_in (settings_back n) = none
-command_in (below_a w) = none
+command_in (settings s) = None
+command_in (completion c) = Some c
+command_in (elapsed ms) = None
+command_in (clock value) = None
+command_in power_up = None
+command_in (page n) = None
+command_in (settings_back n) = None
+command_in (below_a w) = None
 
 -- 02, Ticket 4: whether a call is a completion with the deallocate attribute or bit; no call of a history is
 abbrev pub attribute_in : Call → Bool

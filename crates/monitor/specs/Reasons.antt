@@ -2,12 +2,28 @@
 use Rattle.std.specs.Prelude.{Bool, true, false, not, ◌&&◌, List, [], ◌∷◌, map, ◌↔◌, ◌≡◌, ℕ, suc, ◌≤◌, eqb, get_or}
 use Rattle.window.specs.Fields.{unset}
 use Rattle.rules.specs.declared.commands.Command.{Command}
+use Rattle.std.specs.Prelude.{Option, None, Some}
+use Rattle.monitor.specs.declared.reasons.Reason as code
+use Rattle.monitor.specs.declared.reasons.Reason.TheVariants as reason
 use Rattle.monitor.specs.declared.record.Monitor.{Monitor}
 use Rattle.rules.specs.Answers.{loaded_in}
 use Rattle.rules.specs.Commands.{kind_of, has_kind, bucket_of, counter_at, reaches_a, milliseconds_of}
 use Rattle.rules.specs.Counting.{bit, larger, waited}
 use Rattle.monitor.specs.Calls.{found}
 use Rattle.monitor.specs.Record.{since_load, completion_answer}
+
+-- the number of each reason, and 0 where nothing keeps the stamp from being loaded
+abbrev pub number_of : code.Reason → ℕ
+number_of reason.Disabled = 1
+number_of reason.OfNoKind = 2
+number_of reason.BelowA = 3
+number_of reason.SetInFirst = 4
+number_of reason.NotLarger = 5
+number_of reason.WithinMinimum = 6
+
+abbrev pub says_reason : Option code.Reason → ℕ
+says_reason (Some reason) = number_of reason
+says_reason None = 0
 
 -- a sentence about the record and the completion
 abbrev pub Reason : Type 0

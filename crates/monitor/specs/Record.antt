@@ -1,6 +1,6 @@
 -- The monitor's record, and what each call makes of it and answers.
 use Rattle.std.specs.Prelude.{Bool, true, false, cond, List, ℕ, ◌-◌, eqb, get_or, set, replicate}
-use Rattle.std.proofs.Math.Option.{Option, none, some}
+use Rattle.std.specs.Prelude.{Option, None, Some}
 use Rattle.logpage.specs.Fields.{no_settings, no_debug_log}
 use Rattle.window.specs.Fields.{empty_window}
 use Rattle.rules.specs.declared.commands.Command.{Command}
@@ -44,8 +44,8 @@ new_monitor =
 
 -- what a call leaves of the record, or of a lent buffer: the old content if it is refused, else the next
 abbrev pub untouched_if : {A : Type 0} → Option ℕ → A → A → A
-untouched_if (some n) old next = old
-untouched_if none old next = next
+untouched_if (Some n) old next = old
+untouched_if None old next = next
 
 -- 01, Settings: enabling empties both windows and starts the timer anew, even if no setting differs; disabling leaves
 -- them as they are
@@ -105,8 +105,8 @@ with_below_a m counts = with_active_window m m.active_window m.loaded counts
 
 -- by the counter; without one, by the kind below threshold A, if it is below
 abbrev on_counter : Option ℕ → Option ℕ → Monitor → ℕ → Monitor
-on_counter (some n) kind m ms = after_counted m n ms
-on_counter none kind m ms = with_below_a m (counted_below_a kind m.active_below_a)
+on_counter (Some n) kind m ms = after_counted m n ms
+on_counter None kind m ms = with_below_a m (counted_below_a kind m.active_below_a)
 
 -- 01, A completion: what it does; nothing turns it away
 unfoldable pub after_completion : Monitor → Command → Monitor
@@ -115,8 +115,8 @@ after_completion m c =
 
 -- 01, A completion: what it answers
 abbrev counter_answer : Option ℕ → Monitor → ℕ → CallAnswer
-counter_answer (some n) m ms = counted n (loads_at m n ms) (triggers_at m n)
-counter_answer none m ms = not_counted
+counter_answer (Some n) m ms = counted n (loads_at m n ms) (triggers_at m n)
+counter_answer None m ms = not_counted
 
 unfoldable pub completion_answer : Monitor → Command → CallAnswer
 completion_answer m c = counter_answer (counter_of m.settings c) m (milliseconds_of c)

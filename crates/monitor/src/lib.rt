@@ -6,8 +6,9 @@ mod record;
 mod report;
 mod windows;
 
-pub use logpage::Answer;
-pub use record::{CompletionOutcome, ElapsedOutcome, Monitor, Outcome};
+pub use logpage::Refusal;
+pub use reasons::Reason;
+pub use record::{Monitor, Outcome};
 pub use rules::answers::{CompletionAnswer, ElapsedAnswer};
 pub use rules::commands::Command;
 pub use windows::WindowChoice;

@@ -6,10 +6,10 @@ ghost use Rattle.monitor.specs.Record.{new_monitor, after_settings, settings_ans
 ghost use Rattle.monitor.specs.Record.{after_elapsed, elapsed_answer, after_clock, clock_answer, after_power_up};
 ghost use Rattle.monitor.specs.Record.{loads_at};
 
-use logpage::{Answer, DebugLog, Settings};
+use logpage::{DebugLog, Refusal, Settings};
 use rules::answers::{CompletionAnswer, ElapsedAnswer};
-use rules::commands::{Command, NOT_COUNTED};
-use rules::{counting, refusals, settings, timer};
+use rules::commands::Command;
+use rules::{counting, settings, timer};
 use window::{UNSET, Window};
 
 // What the firmware keeps. The order of the fields keeps calls cheap (docs/DECISIONS.md, 'Shape for speed').
@@ -39,21 +39,9 @@ pub struct Monitor {
 
 // The next record and the answer.
 #[derive(Clone, Copy)]
-pub struct Outcome {
+pub struct Outcome<A> {
     pub next: Monitor,
-    pub answer: Answer,
-}
-
-#[derive(Clone, Copy)]
-pub struct CompletionOutcome {
-    pub next: Monitor,
-    pub answer: CompletionAnswer,
-}
-
-#[derive(Clone, Copy)]
-pub struct ElapsedOutcome {
-    pub next: Monitor,
-    pub answer: ElapsedAnswer,
+    pub answer: A,
 }
 
 impl Monitor {
@@ -80,16 +68,16 @@ impl Monitor {
     }
 
     // Settings, as 4,096 bytes.
-    pub fn configure(mut self, s: &[u8]) -> Outcome
+    pub fn configure(mut self, s: &[u8]) -> Outcome<Result<(), Refusal>>
         ensures next { result.next ≡ after_settings self s.now }
         ensures answer { says_answer result.answer ≡ settings_answer s.now }
     {
         match settings::check(s) {
-            Answer::Refused(n) => {
-                let answer = Answer::Refused(n);
-                Outcome { next: self, answer }
-            }
-            Answer::Done => {
+            Err(refusal) => Outcome {
+                next: self,
+                answer: Err(refusal),
+            },
+            Ok(()) => {
                 let next = settings::decode(s);
                 let debug = settings::after_discard(self.debug, s[settings::DISCARD]);
                 self.settings = next;
@@ -103,11 +91,10 @@ impl Monitor {
                     self.loaded = [0; 12];
                     self.static_window = w;
                     self.active_window = w;
-                    let answer = Answer::Done;
-                    Outcome { next: self, answer }
-                } else {
-                    let answer = Answer::Done;
-                    Outcome { next: self, answer }
+                }
+                Outcome {
+                    next: self,
+                    answer: Ok(()),
                 }
             }
         }
@@ -138,19 +125,18 @@ impl Monitor {
     }
 
     // A completed command. The debug log takes nothing from the counter or the stamp, so it comes before them.
-    pub fn completion(mut self, c: Command) -> CompletionOutcome
+    pub fn completion(mut self, c: Command) -> Outcome<CompletionAnswer>
         ensures next { result.next ≡ after_completion self c }
         ensures answer { says_completion result.answer ≡ completion_answer self c }
         ensures below_a { says_below_a result.answer ≡ is_below_a self.settings c }
     {
-        let counter = c.counter(self.settings);
         if c.is_below_a(self.settings) {
             let active = self.active_below_a;
             let counts = c.counts_below_a(self.settings, active);
             self.active_below_a = counts;
             let answer = CompletionAnswer::BelowA;
-            CompletionOutcome { next: self, answer }
-        } else if counter < NOT_COUNTED {
+            Outcome { next: self, answer }
+        } else if let Some(counter) = c.counter(self.settings) {
             let n = counter as usize;
             let ms = c.milliseconds();
             let debug = counting::triggers(self.settings.trigger, n, self.debug.stamp);
@@ -169,23 +155,23 @@ impl Monitor {
                 self.active_window = Window::of(counters, stamps, latencies, units);
                 self.loaded = loaded;
                 let answer = CompletionAnswer::Loaded { counter, debug };
-                CompletionOutcome { next: self, answer }
+                Outcome { next: self, answer }
             } else {
                 let stamps = self.active_window.stamps;
                 let latencies = self.active_window.latencies;
                 let units = self.active_window.units;
                 self.active_window = Window::of(counters, stamps, latencies, units);
                 let answer = CompletionAnswer::Counted { counter, debug };
-                CompletionOutcome { next: self, answer }
+                Outcome { next: self, answer }
             }
         } else {
             let answer = CompletionAnswer::NotCounted;
-            CompletionOutcome { next: self, answer }
+            Outcome { next: self, answer }
         }
     }
 
     // Elapsed time, in ms.
-    pub fn elapsed(mut self, ms: u32) -> ElapsedOutcome
+    pub fn elapsed(mut self, ms: u32) -> Outcome<Result<ElapsedAnswer, Refusal>>
         ensures next { result.next ≡ after_elapsed self ms }
         ensures answer { says_elapsed result.answer ≡ elapsed_answer self ms }
     {
@@ -209,42 +195,42 @@ impl Monitor {
                 self.loaded = [0; 12];
                 self.static_window = w;
                 self.active_window = e;
-                let answer = ElapsedAnswer::Ended;
-                ElapsedOutcome { next: self, answer }
+                let answer = Ok(ElapsedAnswer::Ended);
+                Outcome { next: self, answer }
             } else {
-                let answer = ElapsedAnswer::Active;
-                ElapsedOutcome { next: self, answer }
+                let answer = Ok(ElapsedAnswer::Active);
+                Outcome { next: self, answer }
             }
         } else {
-            let answer = ElapsedAnswer::Refused(refusals::ELAPSED_TIME);
-            ElapsedOutcome { next: self, answer }
+            let answer = Err(Refusal::ElapsedTime);
+            Outcome { next: self, answer }
         }
     }
 
     // The host sets the clock, in ms.
-    pub fn set_clock(mut self, value: u64) -> Outcome
+    pub fn set_clock(mut self, value: u64) -> Outcome<Result<(), Refusal>>
         ensures next { result.next ≡ after_clock self value }
         ensures answer { says_answer result.answer ≡ clock_answer value }
     {
         if value <= timer::CLOCK_TOP {
             self.clock = value;
             self.host_set = true;
-            let answer = Answer::Done;
+            let answer = Ok(());
             Outcome { next: self, answer }
         } else {
-            let answer = Answer::Refused(refusals::CLOCK_VALUE);
+            let answer = Err(Refusal::ClockValue);
             Outcome { next: self, answer }
         }
     }
 
-    // Power-up.
-    pub fn power_up(mut self) -> Outcome
+    // Power-up, which nothing turns away.
+    pub fn power_up(mut self) -> Outcome<Result<(), Refusal>>
         ensures next { result.next ≡ after_power_up self }
         ensures answer { says_answer result.answer ≡ done }
     {
         self.clock = 0;
         self.host_set = false;
-        let answer = Answer::Done;
+        let answer = Ok(());
         Outcome { next: self, answer }
     }
 }

@@ -6,12 +6,12 @@ ghost use Rattle.monitor.specs.Report.{counts_below_a};
 
 use crate::record::Monitor;
 use crate::windows::WindowChoice;
-use logpage::{Answer, LogPage};
-use rules::{refusals, settings};
+use logpage::{LogPage, Refusal};
+use rules::settings;
 
 impl Monitor {
     // Log page C3h, into a buffer of 512 bytes.
-    pub fn page(self, page: &mut [u8]) -> Answer
+    pub fn page(self, page: &mut [u8]) -> Result<(), Refusal>
         ensures bytes { page.new ≡ after_page self page.old }
         ensures answer { says_answer result ≡ page_answer (length page.old) }
     {
@@ -28,23 +28,23 @@ impl Monitor {
             debug,
         };
         if fields.write(page) {
-            Answer::Done
+            Ok(())
         } else {
-            Answer::Refused(refusals::PAGE_LENGTH)
+            Err(Refusal::PageLength)
         }
     }
 
     // The settings in force, into a buffer of 4,096 bytes.
-    pub fn settings_back(self, s: &mut [u8]) -> Answer
+    pub fn settings_back(self, s: &mut [u8]) -> Result<(), Refusal>
         ensures bytes { s.new ≡ after_settings_back self s.old }
         ensures answer { says_answer result ≡ settings_back_answer (length s.old) }
     {
         if s.len() == settings::LENGTH {
             let bytes = settings::encode(self.settings);
             endian::copy(s, &bytes);
-            Answer::Done
+            Ok(())
         } else {
-            Answer::Refused(refusals::SETTINGS_BACK_LENGTH)
+            Err(Refusal::SettingsBackLength)
         }
     }
 

@@ -1,5 +1,5 @@
 // One of the record's windows.
-#[derive(Clone, Copy)]
+#[derive(Clone, Copy, Debug, PartialEq, Eq)]
 pub enum WindowChoice {
     Active,
     Static,

@@ -1,2 +1,137 @@
--- Laws of records that crates above cite.
-pub use Rattle.records.proofs.records.Laws.{completion-accepted, completion-call, four-fit, known-call, let_through, loaded, refusal-named, timed-alone}
+-- Laws of one record.
+use mathlib.Core.Path.{◌≡◌, refl, sym, ap, ◌∙◌}
+use mathlib.Core.Bool.{Bool, true, false, not, ◌||◌, ◌&&◌, or_assoc}
+use mathlib.Core.List.{List, [], ◌∷◌, ◌++◌}
+use native.Mathlib.Omega.{arith}
+use lib.Dec.{eqb}
+use lib.Seq.{sets, sets-eq, take_all, get_or-drop}
+use borrow.Author.Rules.{part_to_end}
+use Rattle.endian.specs.Loads.{number}
+use Rattle.endian.proofs.Numbers.{below}
+use Rattle.endian.specs.Bytes.{any_set}
+use Rattle.std.specs.Prelude.{Option, None, Some}
+use Prim.Native.Nat.{ℕ, ◌+◌, ◌-◌, ◌<◌, ◌≤◌}
+use borrow.Author.Tests.{eq-eqb, ne_eqb}
+use lib.ListN.{length, get_or, take, drop, length-take, replicate}
+use Rattle.rules.specs.declared.commands.Command.{Command}
+use Rattle.monitor.specs.declared.record.Monitor.{Monitor}
+use Rattle.rules.specs.Answers.{CallAnswer, refused, done, not_counted, counted, ended, by_kind, unless_refused}
+use Rattle.rules.specs.Commands.{counter_of}
+use Rattle.monitor.specs.Calls.{Call, settings, completion, elapsed, clock, power_up, page, settings_back}
+use Rattle.monitor.specs.Calls.{below_a, answer_of, refusal_of, found}
+use Rattle.monitor.specs.Record.{settings_answer, completion_answer, elapsed_answer, clock_answer}
+use Rattle.rules.specs.Refusals.{settings_refusal, elapsed_refusal, clock_refusal, page_refusal, settings_back_refusal}
+use Rattle.monitor.specs.Report.{page_answer, settings_back_answer}
+use Rattle.records.specs.Records.{settings_with, part, unnamed, record_kind, call_of_kind, call_of, record_refusal, record_answer, says_accepted}
+use Rattle.records.specs.declared.answers.RecordAnswer.{RecordAnswer}
+use Rattle.records.specs.declared.answers.RecordAnswer.TheVariants as answer
+
+-- what is 16 bytes stands for the call of its kind, and nothing else for any
+pub of-sixteen : (r : List ℕ) → length r ≡ 16 → call_of r ≡ call_of_kind (record_kind r) r
+unfolding call_of
+of-sixteen r sixteen = rw (eq-eqb (length r) 16 sixteen)
+
+pub not-sixteen : (r : List ℕ) → (length r ≡ 16 → ⊥) → call_of r ≡ None
+unfolding call_of
+not-sixteen r n = rw (ne_eqb (length r) 16 n)
+
+-- of two lists of bytes
+pub any-of-both : (a b : List ℕ) → any_set (a ++ b) ≡ (any_set a || any_set b)
+unfolding any_set
+any-of-both [] b = refl
+any-of-both (x ∷ a) b = rw (any-of-both a b) (sym (or_assoc (not (eqb x 0)) (any_set a) (any_set b)))
+
+-- neither part of what a kind leaves unnamed has a byte that is set
+pub both-clear :
+    (r : List ℕ) (from to rest : ℕ) (a b : Bool) →
+    length r ≡ 16 →
+    a ≡ any_set (part from to r) →
+    b ≡ any_set (take (16 - rest) (drop rest r)) →
+    (not a && not b) ≡ not (any_set (unnamed from to rest r))
+both-clear r from to rest a b sixteen ea eb =
+    let tail : take (16 - rest) (drop rest r) ≡ drop rest r =
+    ap (λ (n : ℕ). take (n - rest) (drop rest r)) (sym sixteen) ∙ part_to_end r rest
+    in
+    rw (ea, eb, tail, any-of-both (part from to r) (drop rest r)) (by (any_set (part from to r)))
+  where
+    by : (t : Bool) → (not t && not (any_set (drop rest r))) ≡ not (t || any_set (drop rest r))
+    by true = refl
+    by false = refl
+
+-- a part of at most eight bytes is loaded whole, and four bytes make a number of 32 bits
+pub loaded : (l : List ℕ) (n : ℕ) → n ≤ 8 → number (take 8 (take n l)) ≡ number (take n l)
+loaded l n h = rw (take_all 8 (take n l) (omega (arith, length-take n l)))
+
+pub four-fit :
+    (l : List ℕ) (n : ℕ) →
+    n ≡ number (take 8 (take 4 l)) →
+    ((k : ℕ) → get_or l k 0 < 256) →
+    n < 4294967296
+four-fit l n e bytes = rw (e, loaded l 4 (omega arith)) (below l bytes 4)
+
+pub fits :
+    (r : List ℕ) (n : ℕ) →
+    n ≡ number (take 8 (take 4 (drop 4 r))) →
+    ((k : ℕ) → get_or r k 0 < 256) →
+    n < 4294967296
+fits r n e bytes = four-fit (drop 4 r) n e (λ k. rw (get_or-drop 4 r k 0) (bytes (4 + k)))
+
+-- zeros, the first of which are overwritten
+pub padded : (fields : List ℕ) → length fields ≡ 13 → sets (replicate 4096 0) 0 fields ≡ settings_with fields
+padded fields thirteen = sets-eq fields (replicate 4096 0) 0 (rw thirteen (omega arith)) ∙ rw thirteen
+
+-- a completion is not refused
+pub completion-accepted : (r : List ℕ) (c : Command) → call_of r ≡ Some (completion c) → record_refusal r ≡ None
+unfolding record_refusal
+completion-accepted r c e = rw e
+
+-- the refusal that an answer names
+abbrev pub refusal_in : CallAnswer → Option ℕ
+refusal_in (refused n) = Some n
+refusal_in done = None
+refusal_in not_counted = None
+refusal_in (counted n loaded debug) = None
+refusal_in (ended e) = None
+refusal_in (by_kind counts) = None
+
+-- a call's answer names the row that turns it away
+named : (m : Monitor) (c : Call) → refusal_in (answer_of m c) ≡ refusal_of c
+unfolding settings_answer completion_answer elapsed_answer clock_answer page_answer settings_back_answer
+named m c = by c
+  where
+    unless : (o : Option ℕ) (answer : CallAnswer) → refusal_in answer ≡ None → refusal_in (unless_refused o answer) ≡ o
+    unless None answer e = e
+    unless (Some n) answer e = refl
+
+    counts : (c : Command) (o : Option ℕ) → counter_of m.settings c ≡ o → refusal_in (completion_answer m c) ≡ None
+    counts c None e = rw e
+    counts c (Some n) e = rw e
+
+    by : (c : Call) → refusal_in (answer_of m c) ≡ refusal_of c
+    by (settings s) = unless (settings_refusal s) done refl
+    by (completion c) = counts c (counter_of m.settings c) refl
+    by (elapsed ms) = unless (elapsed_refusal ms) _ refl
+    by (clock value) = unless (clock_refusal value) done refl
+    by power_up = refl
+    by (page n) = unless (page_refusal n) done refl
+    by (settings_back n) = unless (settings_back_refusal n) done refl
+    by (below_a w) = refl
+
+-- answers other than a refusal name none
+pub let_through : (reply : RecordAnswer) → refusal_in (says_accepted reply) ≡ None
+let_through answer.Done = refl
+let_through answer.NotCounted = refl
+let_through (answer.Counted n loaded debug) = refl
+let_through (answer.Ended e) = refl
+
+-- a record's answer names its refusal
+pub refusal-named :
+    (m : Monitor) (r : List ℕ) (answer : CallAnswer) →
+    answer ≡ record_answer m r →
+    record_refusal r ≡ refusal_in answer
+unfolding record_answer record_refusal
+refusal-named m r answer e = rw e (by (call_of r))
+  where
+    by : (o : Option Call) → found (Some 11) refusal_of o ≡ refusal_in (found (refused 11) (answer_of m) o)
+    by None = refl
+    by (Some c) = sym (named m c)

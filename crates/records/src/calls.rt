@@ -1,85 +1,84 @@
-// One record, and the answer of the call that it stands for.
+// The call of an event, and of a record.
 ghost use Rattle.std.specs.Prelude.{◌≡◌};
-ghost use Rattle.rules.specs.Answers.{says_answer, says_completion, says_elapsed};
-ghost use Rattle.records.specs.Records.{after_record, record_answer, says_record};
+ghost use Rattle.monitor.specs.Calls.{after, answer_of};
+ghost use Rattle.rules.specs.Answers.{says_answer, says_elapsed};
+ghost use Rattle.records.specs.Records.{after_record, record_answer, says_record, call_in, settings_with};
 
 use crate::answers::RecordAnswer;
-use crate::records;
-use monitor::{Answer, CompletionAnswer, ElapsedAnswer, Monitor};
+use crate::event::Event;
+use monitor::{ElapsedAnswer, Monitor, Outcome, Refusal};
 
-// The next monitor and the answer.
-#[derive(Clone, Copy)]
-pub struct RecordOutcome {
-    pub next: Monitor,
-    pub answer: RecordAnswer,
+// Settings bytes 0 to 12, the others zero.
+fn settings_bytes(fields: [u8; 13]) -> [u8; 4096]
+    ensures { result ≡ settings_with fields }
+{
+    let mut s = [0; 4096];
+    endian::copy(&mut s, &fields);
+    s
 }
 
-// A completion's answer.
-fn of_completion(a: CompletionAnswer) -> RecordAnswer
-    ensures { says_record result ≡ says_completion a }
+// A call that has no more to tell than that it was accepted.
+fn plain(o: Outcome<Result<(), Refusal>>) -> Outcome<Result<RecordAnswer, Refusal>>
+    ensures next { result.next ≡ o.next }
+    ensures answer { says_record result.answer ≡ says_answer o.answer }
 {
-    match a {
-        CompletionAnswer::NotCounted => RecordAnswer::NotCounted,
-        CompletionAnswer::BelowA => RecordAnswer::NotCounted,
-        CompletionAnswer::Counted { counter, debug } => RecordAnswer::Counted {
-            counter,
-            loaded: false,
-            debug,
-        },
-        CompletionAnswer::Loaded { counter, debug } => RecordAnswer::Counted {
-            counter,
-            loaded: true,
-            debug,
-        },
+    let answer = match o.answer {
+        Ok(()) => Ok(RecordAnswer::Done),
+        Err(refusal) => Err(refusal),
+    };
+    Outcome {
+        next: o.next,
+        answer,
     }
 }
 
-// An answer to elapsed time.
-fn of_elapsed(a: ElapsedAnswer) -> RecordAnswer
-    ensures { says_record result ≡ says_elapsed a }
+// Elapsed time.
+fn of_elapsed(o: Outcome<Result<ElapsedAnswer, Refusal>>) -> Outcome<Result<RecordAnswer, Refusal>>
+    ensures next { result.next ≡ o.next }
+    ensures answer { says_record result.answer ≡ says_elapsed o.answer }
 {
-    match a {
-        ElapsedAnswer::Refused(number) => RecordAnswer::Refused(number),
-        ElapsedAnswer::Active => RecordAnswer::Ended(false),
-        ElapsedAnswer::Ended => RecordAnswer::Ended(true),
+    let answer = match o.answer {
+        Ok(answer) => Ok(RecordAnswer::from(answer)),
+        Err(refusal) => Err(refusal),
+    };
+    Outcome {
+        next: o.next,
+        answer,
     }
 }
 
-// The answer of another call.
-fn of_other(a: Answer) -> RecordAnswer
-    ensures { says_record result ≡ says_answer a }
-{
-    match a {
-        Answer::Refused(number) => RecordAnswer::Refused(number),
-        Answer::Done => RecordAnswer::Done,
+impl Event {
+    // The event's call, brought to a monitor.
+    pub fn call(self, m: Monitor) -> Outcome<Result<RecordAnswer, Refusal>>
+        ensures next { result.next ≡ after (call_in self) m }
+        ensures answer { says_record result.answer ≡ answer_of m (call_in self) }
+    {
+        match self {
+            Event::Settings(fields) => plain(m.configure(&settings_bytes(fields))),
+            Event::Completion(c) => {
+                let o = m.completion(c);
+                Outcome {
+                    next: o.next,
+                    answer: Ok(RecordAnswer::from(o.answer)),
+                }
+            }
+            Event::Elapsed(ms) => of_elapsed(m.elapsed(ms)),
+            Event::Clock(value) => plain(m.set_clock(value)),
+            Event::PowerUp => plain(m.power_up()),
+        }
     }
 }
 
 // One record. What is not 16 bytes stands for no call.
-pub fn apply(m: Monitor, r: &[u8]) -> RecordOutcome
+pub fn apply(m: Monitor, r: &[u8]) -> Outcome<Result<RecordAnswer, Refusal>>
     ensures next { result.next ≡ after_record m r.now }
     ensures answer { says_record result.answer ≡ record_answer m r.now }
 {
-    if r.len() != records::RECORD {
-        let answer = RecordAnswer::Refused(records::UNKNOWN_RECORD);
-        RecordOutcome { next: m, answer }
-    } else if records::is_completion(r) {
-        let o = m.completion(records::command(r));
-        let next = o.next;
-        let a = o.answer;
-        let answer = of_completion(a);
-        RecordOutcome { next, answer }
-    } else if records::is_elapsed(r) {
-        let o = records::elapsed(m, r);
-        let next = o.next;
-        let a = o.answer;
-        let answer = of_elapsed(a);
-        RecordOutcome { next, answer }
-    } else {
-        let o = records::other(m, r);
-        let next = o.next;
-        let a = o.answer;
-        let answer = of_other(a);
-        RecordOutcome { next, answer }
+    match Event::read(r) {
+        Ok(event) => event.call(m),
+        Err(refusal) => Outcome {
+            next: m,
+            answer: Err(refusal),
+        },
     }
 }

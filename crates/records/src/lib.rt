@@ -3,8 +3,8 @@
 
 mod answers;
 mod calls;
-mod records;
+mod event;
 
 pub use answers::RecordAnswer;
-pub use calls::{RecordOutcome, apply};
-pub use records::{RECORD, code, command, is_completion, timed};
+pub use calls::apply;
+pub use event::{Event, RECORD};

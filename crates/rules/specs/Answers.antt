@@ -1,8 +1,8 @@
 -- What document 01 lets a call answer, and which of it each case of the code's enums says.
 use Rattle.std.specs.Prelude.{Bool, true, false, List, ℕ}
-use Rattle.std.proofs.Math.Option.{Option, none, some}
-use Rattle.logpage.specs.declared.answers.Answer.{Answer}
-use Rattle.logpage.specs.declared.answers.Answer.TheVariants.{Done, Refused}
+use Rattle.std.specs.Prelude.{Option, None, Some, Result, Ok, Err}
+use Rattle.refusals.specs.declared.Refusal.{Refusal}
+use Rattle.refusals.specs.Refusals.{number_of}
 use Rattle.rules.specs.declared.answers.CompletionAnswer.{CompletionAnswer}
 use Rattle.rules.specs.declared.answers.CompletionAnswer.TheVariants as completion
 use Rattle.rules.specs.declared.answers.ElapsedAnswer.{ElapsedAnswer}
@@ -23,13 +23,13 @@ pub data CallAnswer : Type 0 where
 
 -- the refusal if there is one, else the answer of an accepted call
 abbrev pub unless_refused : Option ℕ → CallAnswer → CallAnswer
-unless_refused (some n) answer = refused n
-unless_refused none answer = answer
+unless_refused (Some n) answer = refused n
+unless_refused None answer = answer
 
--- what each case of the code's answers says
-abbrev pub says_answer : Answer → CallAnswer
-says_answer (Refused n) = refused n
-says_answer Done = done
+-- what the code's answers say
+abbrev pub says_answer : Result Unit Refusal → CallAnswer
+says_answer (Ok x) = done
+says_answer (Err refusal) = refused (number_of refusal)
 
 abbrev pub says_completion : CompletionAnswer → CallAnswer
 says_completion completion.NotCounted = not_counted
@@ -44,10 +44,13 @@ says_below_a completion.BelowA = true
 says_below_a (completion.Counted n d) = false
 says_below_a (completion.Loaded n d) = false
 
-abbrev pub says_elapsed : ElapsedAnswer → CallAnswer
-says_elapsed (elapsed.Refused n) = refused n
-says_elapsed elapsed.Active = ended false
-says_elapsed elapsed.Ended = ended true
+abbrev pub says_elapsed_answer : ElapsedAnswer → CallAnswer
+says_elapsed_answer elapsed.Active = ended false
+says_elapsed_answer elapsed.Ended = ended true
+
+abbrev pub says_elapsed : Result ElapsedAnswer Refusal → CallAnswer
+says_elapsed (Ok reply) = says_elapsed_answer reply
+says_elapsed (Err refusal) = refused (number_of refusal)
 
 -- 02, Ticket 5: whether an answer says that the stamp was loaded
 abbrev pub loaded_in : CallAnswer → Bool

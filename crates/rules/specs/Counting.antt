@@ -1,6 +1,6 @@
 -- A counted completion: its counter, its counter's stamp, and the debug log. One below threshold A: its kind's count.
 use Rattle.std.specs.Prelude.{Bool, cond, ◌&&◌, ◌||◌, List, ℕ, ◌+◌, ◌*◌, ◌/◌, ◌%◌, ◌^◌, min, eqb, leb, ltb, get_or, set}
-use Rattle.std.proofs.Math.Option.{Option, none, some}
+use Rattle.std.specs.Prelude.{Option, None, Some}
 use Rattle.window.specs.Fields.{unset}
 use Rattle.logpage.specs.declared.fields.DebugLog.{DebugLog}
 use Rattle.window.specs.declared.fields.Window.{Window}
@@ -26,8 +26,8 @@ once_more_at counters n = set counters n (once_more (get_or counters n 0))
 
 -- 02, Ticket 2: the counts below threshold A, by kind, after a completion of this kind, or of none
 abbrev pub counted_below_a : Option ℕ → List ℕ → List ℕ
-counted_below_a (some k) counts = once_more_at counts k
-counted_below_a none counts = counts
+counted_below_a (Some k) counts = once_more_at counts k
+counted_below_a None counts = counts
 
 -- 01, A completion: what mode largest asks for: more ms than were measured (as many are not enough), and a minimum
 -- window, in units of 100 ms, that is over since the last load

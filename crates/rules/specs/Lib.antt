@@ -4,3 +4,4 @@ pub mod Counting
 pub mod Timer
 pub mod Refusals
 pub mod Answers
+pub mod Kinds

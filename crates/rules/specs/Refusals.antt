@@ -1,6 +1,6 @@
 -- 01, Where a call is turned away: rows 1 to 10 of its table. Rows 11 and 12 are those of `events`.
 use Rattle.std.specs.Prelude.{ℕ, Bool, not, ◌||◌, List, eqb, ltb, length, get_or, drop}
-use Rattle.std.proofs.Math.Option.{Option, none}
+use Rattle.std.specs.Prelude.{Option, None}
 use Rattle.endian.specs.Bytes.{any_set}
 use Rattle.logpage.specs.Answers.{row}
 use Rattle.logpage.specs.declared.fields.Settings.{Settings}
@@ -21,7 +21,7 @@ unfoldable pub field_refusal : ℕ → ℕ → Settings → Option ℕ
 field_refusal discard enable s =
     row 3 (either_above 1 discard enable)
     (row 4 (eqb s.timer_threshold 0)
-    (row 5 (unordered s.thresholds) (row 6 (either_above 4095 s.mode s.trigger) none)))
+    (row 5 (unordered s.thresholds) (row 6 (either_above 4095 s.mode s.trigger) None)))
 
 -- rows 1 and 2, about length and reserved bytes, before those about the fields
 unfoldable pub settings_refusal : List ℕ → Option ℕ
@@ -31,16 +31,16 @@ settings_refusal s =
 
 -- row 7: elapsed time of more than five minutes
 unfoldable pub elapsed_refusal : ℕ → Option ℕ
-elapsed_refusal ms = row 7 (ltb 300000 ms) none
+elapsed_refusal ms = row 7 (ltb 300000 ms) None
 
 -- row 8: a clock of more than 48 bits
 unfoldable pub clock_refusal : ℕ → Option ℕ
-clock_refusal value = row 8 (ltb 281474976710655 value) none
+clock_refusal value = row 8 (ltb 281474976710655 value) None
 
 -- row 9: a buffer that a page does not fill exactly
 unfoldable pub page_refusal : ℕ → Option ℕ
-page_refusal n = row 9 (not (eqb n 512)) none
+page_refusal n = row 9 (not (eqb n 512)) None
 
 -- row 10: a buffer that settings do not fill exactly
 unfoldable pub settings_back_refusal : ℕ → Option ℕ
-settings_back_refusal n = row 10 (not (eqb n 4096)) none
+settings_back_refusal n = row 10 (not (eqb n 4096)) None

@@ -1,8 +1,8 @@
-// What calls answer that have more to tell than `logpage::Answer`. specs/Answers.antt gives the number and the values
-// of document 01 for each case.
+// What calls answer that have more to tell than that they were accepted. specs/Answers.antt gives the number and the
+// values of document 01 for each case.
 
 // The answer to a completion, which is never turned away.
-#[derive(Clone, Copy)]
+#[derive(Clone, Copy, Debug, PartialEq, Eq)]
 pub enum CompletionAnswer {
     NotCounted,
     // 'Not counted' too, of those below threshold A while enabled: a way out of its own, for speed (docs/DECISIONS.md,
@@ -14,10 +14,9 @@ pub enum CompletionAnswer {
     Loaded { counter: u16, debug: bool },
 }
 
-// The answer to elapsed time.
-#[derive(Clone, Copy)]
+// The answer to elapsed time that is accepted.
+#[derive(Clone, Copy, Debug, PartialEq, Eq)]
 pub enum ElapsedAnswer {
-    Refused(u8),
     // The active window goes on.
     Active,
     // The active window ended, and is the static one now.

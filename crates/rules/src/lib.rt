@@ -1,10 +1,9 @@
-// The rules of the monitor on plain values: settings, commands, counting and time, and what is answered and turned away.
+// The rules of the monitor on plain values: settings, commands, counting and time, and what is answered.
 #![tactic(auto)]
 
 pub mod answers;
 pub mod commands;
 pub mod counting;
 pub mod kinds;
-pub mod refusals;
 pub mod settings;
 pub mod timer;

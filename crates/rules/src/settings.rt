@@ -5,8 +5,7 @@ ghost use Rattle.rules.specs.Answers.{done, says_answer, unless_refused};
 ghost use Rattle.rules.specs.Settings.{decoded, encoded};
 ghost use Rattle.rules.specs.Refusals.{settings_refusal, field_refusal, either_above, unordered};
 
-use crate::refusals;
-use logpage::{Answer, DebugLog, Settings};
+use logpage::{DebugLog, Refusal, Settings};
 
 pub const LENGTH: usize = 4096;
 
@@ -63,48 +62,42 @@ pub fn encode(s: Settings) -> [u8; 4096]
 fn either_above(top: u16, a: u16, b: u16) -> bool
     ensures { result ≡ either_above top a b }
 {
-    if top < a { true } else { top < b }
+    top < a || top < b
 }
 
 // Whether a threshold is above the next.
 pub fn unordered(t: [u8; 4]) -> bool
     ensures { result ≡ unordered t }
 {
-    if t[1] < t[0] {
-        true
-    } else if t[2] < t[1] {
-        true
-    } else {
-        t[3] < t[2]
-    }
+    t[1] < t[0] || t[2] < t[1] || t[3] < t[2]
 }
 
 // Whether the fields are accepted, and the first rule that turns them away if not.
-fn check_fields(discard: u8, enable: u8, s: Settings) -> Answer
+fn check_fields(discard: u8, enable: u8, s: Settings) -> Result<(), Refusal>
     ensures { says_answer result ≡ unless_refused (field_refusal discard enable s) done }
 {
     let t = s.thresholds;
     if either_above(1, discard as u16, enable as u16) {
-        Answer::Refused(refusals::FLAG_ABOVE_ONE)
+        Err(Refusal::FlagAboveOne)
     } else if s.timer_threshold == 0 {
-        Answer::Refused(refusals::NO_TIMER_THRESHOLD)
+        Err(Refusal::NoTimerThreshold)
     } else if unordered(t) {
-        Answer::Refused(refusals::THRESHOLD_ORDER)
+        Err(Refusal::ThresholdOrder)
     } else if either_above(COUNTER_MASK, s.mode, s.trigger) {
-        Answer::Refused(refusals::RESERVED_BIT)
+        Err(Refusal::ReservedBit)
     } else {
-        Answer::Done
+        Ok(())
     }
 }
 
 // Whether settings are accepted, and the first rule that turns them away if not.
-pub fn check(s: &[u8]) -> Answer
+pub fn check(s: &[u8]) -> Result<(), Refusal>
     ensures { says_answer result ≡ unless_refused (settings_refusal s.now) done }
 {
     if s.len() != LENGTH {
-        Answer::Refused(refusals::SETTINGS_LENGTH)
+        Err(Refusal::SettingsLength)
     } else if endian::any_set(&s[RESERVED..]) {
-        Answer::Refused(refusals::RESERVED_BYTE)
+        Err(Refusal::ReservedByte)
     } else {
         check_fields(s[DISCARD], s[ENABLE], decode(s))
     }

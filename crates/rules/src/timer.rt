@@ -63,9 +63,5 @@ pub fn in_window(timer: u16, partial: u32) -> u64
 pub fn grown(clock: u64, ms: u32) -> u64
     ensures { result ≡ grown clock ms }
 {
-    if clock < CLOCK_TOP - ms as u64 {
-        clock + ms as u64
-    } else {
-        CLOCK_TOP
-    }
+    clock.saturating_add(ms as u64).min(CLOCK_TOP)
 }

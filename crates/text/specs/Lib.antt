@@ -1,4 +1,3 @@
-pub mod Stored
 pub mod Lines
 pub mod Pages
 pub mod Listing

@@ -1,7 +1,5 @@
 -- 01, The page program: the line of what is refused; and a number alone.
-use Rattle.std.specs.Prelude.{cond, List, [], ◌∷◌, ◌++◌, ℕ, zero, suc, ◌+◌, ◌*◌, ◌/◌, ◌%◌, ltb, length}
-use Rattle.text.specs.Stored.{Stored, padded}
-use Rattle.text.specs.declared.lines.Line.{Line}
+use Rattle.std.specs.Prelude.{cond, List, [], ◌∷◌, ◌++◌, ℕ, zero, suc, ◌+◌, ◌/◌, ◌%◌, ltb}
 
 -- the last k decimal digits of n as ASCII bytes, the highest first
 unfoldable pub digits : (k n : ℕ) → List ℕ
@@ -33,14 +31,3 @@ refused_line numbers = refused_word ++ spaced numbers ++ (10 ∷ [])
 -- 02, Ticket 5: a number alone, newline
 unfoldable pub number_line : ℕ → List ℕ
 number_line n = decimal n ++ (10 ∷ [])
-
--- the numbers, and the line, stored in a buffer: a number has at most 20 digits behind its space
-abbrev pub NumbersStored : List ℕ → ℕ → (before after : List ℕ) (took : ℕ) → Type 0
-NumbersStored numbers at = Stored (spaced numbers) at (21 * length numbers)
-
-abbrev pub LineStored : List ℕ → ℕ → (before after : List ℕ) (took : ℕ) → Type 0
-LineStored numbers at = Stored (refused_line numbers) at (8 + 21 * length numbers)
-
--- a line in a room of 50 bytes, enough for two numbers
-unfoldable pub as_line : List ℕ → Line
-as_line t = record { bytes = padded 50 t; len = length t }

@@ -1,19 +1,12 @@
 -- 02, Ticket 1: the listing of a page's counters.
-use Rattle.std.specs.Prelude.{ℕ, zero, suc, List, [], ◌∷◌, ◌++◌, length, get_or}
-use Rattle.std.proofs.Math.Option.{Option, none, some}
+use Rattle.std.specs.Prelude.{ℕ, zero, suc, List, [], ◌∷◌, ◌++◌, Option, None, Some, get_or}
 use Rattle.logpage.specs.Reader.{fields_in, read_refusal}
 use Rattle.logpage.specs.declared.page.LogPage.{LogPage}
 use Rattle.text.specs.Lines.{decimal, spaced, refused_line}
-use Rattle.text.specs.Stored.{Stored, padded}
-use Rattle.text.specs.declared.listing.Listing.{Listing}
 
 -- the counter's number, its count in the active window, its count in the static window, newline
 unfoldable pub counts_line : (n active static : ℕ) → List ℕ
 counts_line n active static = decimal n ++ spaced (active ∷ static ∷ []) ++ (10 ∷ [])
-
--- a line, stored in a buffer: three numbers of at most 20 digits, two spaces and newline have room in 64 bytes
-abbrev pub CountsStored : (n active static at : ℕ) (before after : List ℕ) (took : ℕ) → Type 0
-CountsStored n active static at = Stored (counts_line n active static) at 64
 
 -- the lines of the first n counters
 unfoldable pub counts_lines : (active static : List ℕ) (n : ℕ) → List ℕ
@@ -24,14 +17,10 @@ counts_lines active static (suc n) = counts_lines active static n ++ counts_line
 unfoldable pub listing_of : (active static : List ℕ) → List ℕ
 listing_of active static = counts_lines active static 12
 
--- a text in the room of twelve lines
-unfoldable pub as_listing : List ℕ → Listing
-as_listing t = record { bytes = padded 768 t; len = length t }
-
 -- the counters that a page's fields show, or the line of its refusal
 abbrev pub listed : Option ℕ → LogPage → List ℕ
-listed none p = listing_of p.active_window.counters p.static_window.counters
-listed (some n) p = refused_line (n ∷ [])
+listed None p = listing_of p.active_window.counters p.static_window.counters
+listed (Some n) p = refused_line (n ∷ [])
 
 unfoldable pub page_listing : List ℕ → List ℕ
 page_listing page = listed (read_refusal page) (fields_in page)

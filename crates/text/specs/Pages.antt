@@ -1,8 +1,6 @@
 -- 01, The page program: a page in hex, without its last two rows, which hold version and GUID.
-use Rattle.std.specs.Prelude.{ℕ, zero, suc, ◌+◌, ◌*◌, ◌/◌, ◌%◌, cond, List, [], ◌∷◌, ◌++◌, ltb, length, take, drop}
+use Rattle.std.specs.Prelude.{ℕ, zero, suc, ◌+◌, ◌*◌, ◌/◌, ◌%◌, cond, List, [], ◌∷◌, ◌++◌, ltb, take, drop}
 use Rattle.endian.specs.Bytes.{any_set}
-use Rattle.text.specs.Stored.{padded}
-use Rattle.text.specs.declared.pages.Text.{Text}
 
 -- a hex digit as its ASCII byte: 48 to 57 for 0 to 9, and capitals, 65 to 70, for 10 to 15
 unfoldable pub hex_digit : ℕ → ℕ
@@ -38,7 +36,3 @@ lines page (suc n) = lines page n ++ line_at page (16 * n)
 -- thirty rows
 unfoldable pub text_of : List ℕ → List ℕ
 text_of page = lines page 30
-
--- a text in the room that thirty lines of 38 bytes take
-unfoldable pub as_text : List ℕ → Text
-as_text t = record { bytes = padded 1140 t; len = length t }

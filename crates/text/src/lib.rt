@@ -5,6 +5,6 @@ mod lines;
 mod listing;
 mod pages;
 
-pub use lines::{Line, no_line, number_line, refused_line, refused_record};
+pub use lines::{LINE, Line, no_line, number_line, refused_line, refused_record};
 pub use listing::{Listing, page_listing};
 pub use pages::{Text, page_text};

@@ -1,145 +1,89 @@
 // Lines, as the programs print them: of what is refused (document 01, The page program), and a number alone.
-ghost use Rattle.std.specs.Prelude.{◌≡◌, [], ◌∷◌, ◌+◌, ◌*◌, ◌≤◌, length};
-ghost use Rattle.std.proofs.lemmas.List.Edits.{sets};
-ghost use Rattle.text.specs.Lines.{digits, width_within, decimal, NumbersStored, LineStored};
-ghost use Rattle.text.specs.Lines.{refused_line, number_line, as_line};
-ghost use Rattle.text.specs.Stored.{Stored};
+ghost use Rattle.std.specs.Prelude.{◌≡◌, [], ◌∷◌, ◌++◌, ◌+◌, ◌*◌, ◌≤◌, length};
+ghost use Rattle.arrayvec.specs.ArrayString.{array_string_len};
+ghost use Rattle.text.specs.Lines.{decimal, spaced, refused_line, number_line};
 
-// The line is the first `len` bytes; the others are zero.
-#[derive(Clone, Copy)]
-pub struct Line {
-    pub bytes: [u8; 50],
-    pub len: usize,
+use arrayvec::ArrayString;
+use itoa::Buffer;
+
+// The room of a line: `refused`, two numbers of at most 20 digits, each behind a space, and newline.
+pub const LINE: usize = 50;
+
+pub type Line = ArrayString<LINE>;
+
+// Appends a number in decimal.
+#[tactic(auto, using(crate::proofs::lines::Laws::as_printed))]
+pub(crate) fn push_decimal<const N: usize>(text: &mut ArrayString<N>, n: u64)
+    requires { array_string_len text.old + 20 ≤ N }
+    ensures digits { text.new.bytes ≡ text.old.bytes ++ decimal n }
+    ensures len { array_string_len text.new ≤ array_string_len text.old + 20 }
+{
+    text.push_str(Buffer::new().format(n));
 }
 
-// The most digits that a number of 64 bits has.
-const WIDEST: usize = 20;
-
-// Stores bytes as they are.
-fn put_text(out: &mut [u8], at: usize, text: &[u8])
-    requires { at + length text.now ≤ length out.old }
-    ensures { out.new ≡ sets out.old at text.now }
+// Appends a space and a number.
+fn push_number<const N: usize>(text: &mut ArrayString<N>, n: u64)
+    requires { array_string_len text.old + 21 ≤ N }
+    ensures number { text.new.bytes ≡ text.old.bytes ++ 32 ∷ decimal n }
+    ensures len { array_string_len text.new ≤ array_string_len text.old + 21 }
 {
-    let mut i = 0;
-    while i < text.len() {
-        out[at + i] = text[i];
-        i += 1;
+    text.push(' ');
+    push_decimal(text, n);
+}
+
+// Appends each number behind a space.
+#[tactic(auto, using(crate::proofs::lines::Laws::numbers_steps))]
+pub(crate) fn push_numbers<const N: usize>(text: &mut ArrayString<N>, numbers: &[u64])
+    requires { array_string_len text.old + 21 * length numbers.now ≤ N }
+    ensures numbers { text.new.bytes ≡ text.old.bytes ++ spaced numbers.now }
+    ensures len { array_string_len text.new ≤ array_string_len text.old + 21 * length numbers.now }
+{
+    for n in numbers {
+        push_number(text, *n);
     }
 }
 
-// How many decimal digits a number has.
-fn width(n: u64) -> usize
-    ensures { (result ≡ width_within 19 n) × (result ≤ 20) }
+// The refused line with these numbers.
+#[tactic(auto, unfolding(crate::specs::Lines::refused_line, crate::specs::Lines::refused_word))]
+pub(crate) fn refused<const N: usize>(numbers: &[u64]) -> ArrayString<N>
+    requires { 8 + 21 * length numbers.now ≤ N }
+    ensures { result.bytes ≡ refused_line numbers.now }
 {
-    let mut rest = n;
-    let mut k = 1;
-    while k < WIDEST {
-        if rest < 10 {
-            break;
-        }
-        rest = rest / 10;
-        k += 1;
-    }
-    k
-}
-
-// Stores the last k digits of a number.
-fn put_digits(out: &mut [u8], at: usize, k: usize, n: u64)
-    requires { at + k ≤ length out.old }
-    ensures { out.new ≡ sets out.old at (digits k n) }
-{
-    let mut rest = n;
-    let mut i = k;
-    while 0 < i {
-        i -= 1;
-        out[at + i] = 48 + (rest % 10) as u8;
-        rest = rest / 10;
-    }
-}
-
-// Stores a number in decimal, and says how many bytes it took.
-pub(crate) fn put_decimal(out: &mut [u8], at: usize, n: u64) -> usize
-    requires { at + 20 ≤ length out.old }
-    ensures { Stored (decimal n) at 20 out.old out.new result }
-{
-    let k = width(n);
-    put_digits(out, at, k, n);
-    k
-}
-
-// Stores a space and a number, and says how many bytes they took.
-fn put_number(out: &mut [u8], at: usize, n: u64) -> usize
-    requires { at + 21 ≤ length out.old }
-    ensures { Stored (32 ∷ decimal n) at 21 out.old out.new result }
-{
-    out[at] = b' ';
-    put_decimal(out, at + 1, n) + 1
-}
-
-// Stores each number behind a space, and says how many bytes they took.
-pub(crate) fn put_numbers(out: &mut [u8], at: usize, numbers: &[u64]) -> usize
-    requires { at + 21 * length numbers.now ≤ length out.old }
-    ensures { NumbersStored numbers.now at out.old out.new result }
-{
-    let mut took = 0;
-    let mut i = 0;
-    while i < numbers.len() {
-        took += put_number(out, at + took, numbers[i]);
-        i += 1;
-    }
-    took
-}
-
-// Stores a refused line with these numbers, and says how many bytes it took.
-pub(crate) fn put_refused(out: &mut [u8], at: usize, numbers: &[u64]) -> usize
-    requires { at + (8 + 21 * length numbers.now) ≤ length out.old }
-    ensures { LineStored numbers.now at out.old out.new result }
-{
-    put_text(out, at, b"refused");
-    let took = put_numbers(out, at + 7, numbers);
-    out[at + 7 + took] = b'\n';
-    took + 8
+    let mut line = ArrayString::new();
+    line.push_str("refused");
+    push_numbers(&mut line, numbers);
+    line.push('\n');
+    line
 }
 
 // The refused line of a record: its number, and the refusal.
 pub fn refused_record(index: u64, refusal: u64) -> Line
-    ensures value { result ≡ as_line (refused_line (index ∷ refusal ∷ [])) }
-    ensures len_in_bounds { (result.len ≤ length result.bytes) × (result.len ≤ 50) }
+    ensures { result.bytes ≡ refused_line (index ∷ refusal ∷ []) }
 {
-    let mut bytes = [0; 50];
-    let len = put_refused(&mut bytes, 0, &[index, refusal]);
-    Line { bytes, len }
+    refused(&[index, refusal])
 }
 
 // The refused line of an input: the refusal alone.
 pub fn refused_line(refusal: u64) -> Line
-    ensures value { result ≡ as_line (refused_line (refusal ∷ [])) }
-    ensures len_in_bounds { result.len ≤ length result.bytes }
+    ensures { result.bytes ≡ refused_line (refusal ∷ []) }
 {
-    let mut bytes = [0; 50];
-    let len = put_refused(&mut bytes, 0, &[refusal]);
-    Line { bytes, len }
+    refused(&[refusal])
 }
 
 // A number alone on a line.
+#[tactic(auto, unfolding(crate::specs::Lines::number_line))]
 pub fn number_line(n: u64) -> Line
-    ensures value { result ≡ as_line (number_line n) }
-    ensures len_in_bounds { result.len ≤ length result.bytes }
+    ensures { result.bytes ≡ number_line n }
 {
-    let mut bytes = [0; 50];
-    let width = put_decimal(&mut bytes, 0, n);
-    bytes[width] = b'\n';
-    Line {
-        bytes,
-        len: width + 1,
-    }
+    let mut line = Line::new();
+    push_decimal(&mut line, n);
+    line.push('\n');
+    line
 }
 
 // No line at all.
 pub fn no_line() -> Line
-    ensures value { result ≡ as_line [] }
-    ensures len_in_bounds { (result.len ≤ length result.bytes) × (result.len ≤ 50) }
+    ensures { result.bytes ≡ [] }
 {
-    let bytes = [0; 50];
-    Line { bytes, len: 0 }
+    Line::new()
 }

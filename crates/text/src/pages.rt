@@ -1,94 +1,88 @@
 // The text of the page: page bytes 0 to 479, 16 a line (document 01, the page program).
-ghost use Rattle.std.specs.Prelude.{◌≡◌, ◌+◌, ◌*◌, ◌<◌, ◌≤◌, length};
-ghost use Rattle.std.proofs.lemmas.List.Edits.{sets};
-ghost use Rattle.text.specs.Pages.{hex_digit, hex_offset, hex_bytes, line_at, text_of, as_text};
-ghost use Rattle.text.specs.Stored.{Stored};
+ghost use Rattle.std.specs.Prelude.{◌≡◌, [], ◌∷◌, ◌++◌, ◌+◌, ◌<◌, ◌≤◌};
+ghost use Rattle.arrayvec.specs.ArrayString.{array_string_len};
+ghost use Rattle.text.specs.Pages.{hex_digit, hex_offset, hex_bytes, line, text_of};
+
+use arrayvec::ArrayString;
 
 // Bytes of the page in a line.
 const ROW: usize = 16;
 
-// Bytes of a line's text: three digits, colon, space, 32 digits, newline.
-const WIDTH: usize = 38;
-
 // Bytes 480 to 511 are not printed.
 const LINES: usize = 30;
 
-// The text is the first `len` bytes; the others are zero.
-#[derive(Clone, Copy)]
-pub struct Text {
-    pub bytes: [u8; 1140],
-    pub len: usize,
-}
+// Thirty lines of 38 bytes: three digits, colon, space, 32 digits, newline.
+pub type Text = ArrayString<1140>;
 
 // A hex digit, a capital from ten on, as its ASCII byte.
+#[tactic(auto, unfolding(crate::specs::Pages::hex_digit))]
 fn hex_digit(d: u8) -> u8
     requires { d < 16 }
-    ensures { result ≡ hex_digit d }
+    ensures digit { result ≡ hex_digit d }
+    ensures ascii { result < 128 }
 {
-    if d < 10 { 48 + d } else { 55 + d }
+    if d < 10 { b'0' + d } else { b'A' + (d - 10) }
 }
 
-// Stores the offset in three digits, colon and space.
-fn put_offset(out: &mut [u8], at: usize, offset: usize)
-    requires { at + 5 ≤ length out.old }
-    ensures { out.new ≡ sets out.old at (hex_offset offset) }
+// Appends a hex digit.
+fn push_digit<const N: usize>(text: &mut ArrayString<N>, d: u8)
+    requires digit { d < 16 }
+    requires room { array_string_len text.old < N }
+    ensures digit { text.new.bytes ≡ text.old.bytes ++ hex_digit d ∷ [] }
+    ensures len { array_string_len text.new ≡ array_string_len text.old + 1 }
 {
-    out[at] = hex_digit((offset / 256 % 16) as u8);
-    out[at + 1] = hex_digit((offset / 16 % 16) as u8);
-    out[at + 2] = hex_digit((offset % 16) as u8);
-    out[at + 3] = b':';
-    out[at + 4] = b' ';
+    text.push(hex_digit(d) as char);
 }
 
-// Stores each byte in two digits.
-fn put_bytes(out: &mut [u8], at: usize, row: &[u8])
-    requires { at + 2 * length row.now ≤ length out.old }
-    ensures { out.new ≡ sets out.old at (hex_bytes row.now) }
+// Appends the offset in three digits, colon and space.
+#[tactic(auto, unfolding(crate::specs::Pages::hex_offset))]
+fn push_offset<const N: usize>(text: &mut ArrayString<N>, offset: usize)
+    requires { array_string_len text.old + 5 ≤ N }
+    ensures offset { text.new.bytes ≡ text.old.bytes ++ hex_offset offset }
+    ensures len { array_string_len text.new ≡ array_string_len text.old + 5 }
 {
-    let mut i = 0;
-    while i < row.len() {
-        out[at + 2 * i] = hex_digit(row[i] / 16);
-        out[at + 2 * i + 1] = hex_digit(row[i] % 16);
-        i += 1;
+    push_digit(text, (offset / 256 % 16) as u8);
+    push_digit(text, (offset / 16 % 16) as u8);
+    push_digit(text, (offset % 16) as u8);
+    text.push_str(": ");
+}
+
+// Appends each byte in two digits.
+#[tactic(auto, using(crate::proofs::pages::Laws::bytes_steps))]
+fn push_bytes<const N: usize>(text: &mut ArrayString<N>, row: &[u8; ROW])
+    requires { array_string_len text.old + 32 ≤ N }
+    ensures digits { text.new.bytes ≡ text.old.bytes ++ hex_bytes row.now }
+    ensures len { array_string_len text.new ≡ array_string_len text.old + 32 }
+{
+    for byte in row {
+        push_digit(text, byte / 16);
+        push_digit(text, byte % 16);
     }
 }
 
-// Stores the line at an offset, unless it is of zeros alone, and says how many bytes it took.
-fn put_line(out: &mut [u8], at: usize, page: &[u8], offset: usize) -> usize
-    requires { (at + 38 ≤ length out.old) × (offset + 16 ≤ length page.now) }
-    ensures { Stored (line_at page.now offset) at 38 out.old out.new result }
+// Appends the line of a row, which begins at an offset.
+#[tactic(auto, unfolding(crate::specs::Pages::line))]
+fn push_line<const N: usize>(text: &mut ArrayString<N>, offset: usize, row: &[u8; ROW])
+    requires { array_string_len text.old + 38 ≤ N }
+    ensures line { text.new.bytes ≡ text.old.bytes ++ line offset row.now }
+    ensures len { array_string_len text.new ≡ array_string_len text.old + 38 }
 {
-    let row = &page[offset..offset + ROW];
-    if endian::any_set(row) {
-        put_offset(out, at, offset);
-        put_bytes(out, at + 5, row);
-        out[at + 37] = b'\n';
-        WIDTH
-    } else {
-        0
-    }
+    push_offset(text, offset);
+    push_bytes(text, row);
+    text.push('\n');
 }
 
-// Stores the lines one after the other, and says how many bytes they took.
-fn put_lines(out: &mut [u8], page: &[u8]) -> usize
-    requires { (1140 ≤ length out.old) × (480 ≤ length page.now) }
-    ensures { Stored (text_of page.now) 0 1140 out.old out.new result }
-{
-    let mut at = 0;
-    let mut line = 0;
-    while line < LINES {
-        at += put_line(out, at, page, ROW * line);
-        line += 1;
-    }
-    at
-}
-
-// The text of the page.
+// The text of the page. A row of zeros has no line.
+#[tactic(auto, using(crate::proofs::pages::Laws::rows_steps), unfolding(crate::specs::Pages::lines, crate::specs::Pages::text_of))]
 pub fn page_text(page: &[u8; 512]) -> Text
-    ensures value { result ≡ as_text (text_of page.now) }
-    ensures len_in_bounds { result.len ≤ length result.bytes }
+    ensures { result.bytes ≡ text_of page.now }
 {
-    let mut bytes = [0; 1140];
-    let len = put_lines(&mut bytes, page);
-    Text { bytes, len }
+    let mut text = Text::new();
+    let (rows, _) = page.as_chunks::<ROW>();
+    for (n, row) in rows[..LINES].iter().enumerate() {
+        if endian::any_set(row) {
+            push_line(&mut text, ROW * n, row);
+        }
+    }
+    text
 }

@@ -2,7 +2,7 @@
 use mathlib.Core.Path.{◌≡◌, refl, sym, ap, ◌∙◌}
 use mathlib.Core.Bool.{Bool, true, false, cond, not, ◌&&◌, true≢false}
 use mathlib.Core.List.{List, [], ◌∷◌}
-use mathlib.Core.Option.{none}
+use Rattle.std.specs.Prelude.{None}
 use Prim.Native.Nat.{ℕ, zero, suc, ◌+◌, ◌*◌, ◌/◌, ◌%◌, ◌≤◌, ◌<◌}
 use native.Mathlib.Omega.{arith}
 use borrow.Author.Tests.{eqb-true, eqb-false, eq-eqb, ne_eqb, ltb-true, ltb-false}
@@ -51,7 +51,7 @@ same_kind c = rw (opcode c.deallocate, attribute c.deallocate)
     attribute false = ne_eqb ((2 * c.opcode + 0) % 2) 1 (λ e. omega arith)
 
 -- and those from 32 on have none
-pub no_kind : (c : Command) → 32 ≤ code_of c → kind_of c ≡ none
+pub no_kind : (c : Command) → 32 ≤ code_of c → kind_of c ≡ None
 unfolding kind_of
 no_kind c h =
     let high = from c.deallocate h in

@@ -1,43 +1,15 @@
 -- Laws of the lines of a block.
-use Rattle.std.proofs.Common.{◌≡◌, ℕ, zero, suc, ◌+◌, ◌-◌, ◌*◌, ◌/◌, ◌%◌, ◌^◌, ◌≤◌, List, [], ◌∷◌, ◌++◌, length, take, drop, refl, ap, ◌∙◌, arith, length-append, length-drop, length-take}
-use mathlib.Core.Option.{Option, none, some}
+use Rattle.std.proofs.Common.{◌≡◌, ℕ, zero, suc, ◌+◌, ◌-◌, ◌*◌, ◌/◌, ◌%◌, ◌^◌, ◌≤◌, List, [], ◌∷◌, ◌++◌, length, take, drop, sym, refl, ap, ◌∙◌, append_assoc, append-nil, arith, length-append, length-drop, length-take}
+use Rattle.std.specs.Prelude.{Option, None, Some}
 use native.Mathlib.Nat.{sub-zero}
-use lib.Seq.{sets, take-append_seam}
-use borrow.Rule.Slice.PartMut.{put_mid}
-use Rattle.endian.proofs.Runs.{run-left, run-part}
 use Rattle.rules.specs.Answers.{refused, done, unless_refused}
 use Rattle.monitor.specs.Calls.{found, or_else}
-use Rattle.text.specs.declared.lines.Line.{Line}
-use Rattle.text.specs.Lines.{refused_line, as_line}
-use Rattle.text.specs.Stored.{Stored}
+use Rattle.text.specs.Lines.{refused_line}
 use Rattle.events.specs.Blocks.{record_line, lines_from, refused_lines, end_line}
 use Rattle.records.specs.Records.{record_refusal}
 use Rattle.events.specs.Files.{Refusal, refusal_at, first_refused_from, first_refused, record_at}
 use Rattle.events.specs.Files.{whole_records, end_refusal}
 use Rattle.events.proofs.files.Laws.{rest-record}
-
--- a line that is copied to a part of the output
-pub line-text : (line : Line) (t : List ℕ) → line ≡ as_line t → take line.len line.bytes ≡ t
-unfolding as_line
-line-text line t e = rw e (take-append_seam t _)
-
-pub line-put :
-    (line : Line) (t out last : List ℕ) (at : ℕ) →
-    line ≡ as_line t →
-    line.len ≤ 50 →
-    at + 50 ≤ length out →
-    last ≡ sets (take (at + line.len - at) (drop at out)) 0 (take line.len line.bytes) →
-    Stored t at 50 out (put_mid at (at + line.len - at) out last) line.len
-unfolding as_line
-line-put line t out last at e le room copied =
-    let size : line.len ≡ length t = ap (λ (l : Line). l.len) e in
-    let k : at + line.len - at ≡ length t = omega arith in
-    let there : last ≡ sets (take (at + line.len - at) (drop at out)) 0 t = copied ∙ rw (line-text line t e) in
-    record {
-      content = run-part out last t at (at + line.len) (length t) k (omega arith) refl there;
-      exact = size;
-      within = le;
-    }
 
 -- the line of a refused record that a run of the rest stopped at
 abbrev pub line_of : (first i : ℕ) → Refusal → List ℕ
@@ -51,7 +23,7 @@ module _ (first : ℕ) (s : List ℕ) (i : ℕ) where
   -- no line before the first refused record
   next-line :
       (n k : ℕ) (p : Refusal) →
-      some p ≡ first_refused_from rest k n →
+      Some p ≡ first_refused_from rest k n →
       lines_from first s (i + k) n ≡ line_of first i p ++ lines_from first s (suc (i + p.index)) (k + n - suc p.index)
   unfolding first_refused_from lines_from record_line
   next-line zero k p e = let z : ◌≡◌ {A = ℕ} 0 1 = cc in absurd (omega arith)
@@ -60,26 +32,26 @@ module _ (first : ℕ) (s : List ℕ) (i : ℕ) where
       by :
           (o : Option ℕ) →
           record_refusal (record_at rest k) ≡ o →
-          some p ≡ or_else (refusal_at k o) (first_refused_from rest (suc k) n) →
-          (some p ≡ first_refused_from rest (suc k) n →
+          Some p ≡ or_else (refusal_at k o) (first_refused_from rest (suc k) n) →
+          (Some p ≡ first_refused_from rest (suc k) n →
           lines_from first s (i + suc k) n ≡
           line_of first i p ++ lines_from first s (suc (i + p.index)) (suc k + n - suc p.index)) →
           lines_from first s (i + k) (suc n) ≡
           line_of first i p ++ lines_from first s (suc (i + p.index)) (k + suc n - suc p.index)
-      by none eo e later =
-          let here : record_refusal (record_at s (i + k)) ≡ none = rw (rest-record s i k) at eo in
+      by None eo e later =
+          let here : record_refusal (record_at s (i + k)) ≡ None = rw (rest-record s i k) at eo in
           let on : suc (i + k) ≡ i + suc k = omega arith in
           let left : k + suc n - suc p.index ≡ suc k + n - suc p.index = omega arith in
           rw (here, on, left) (later e)
-      by (some x) eo e later =
-          let here : record_refusal (record_at s (i + k)) ≡ some x = rw (rest-record s i k) at eo in
+      by (Some x) eo e later =
+          let here : record_refusal (record_at s (i + k)) ≡ Some x = rw (rest-record s i k) at eo in
           let index_is : p.index ≡ k = ap (found 0 (λ (x : Refusal). x.index)) e in
           let number_is : p.number ≡ x = ap (found 0 (λ (x : Refusal). x.number)) e in
           let left : k + suc n - suc k ≡ n = omega arith in
           rw (here, index_is, number_is, left) refl
 
   -- no line at all
-  no_lines : (n k : ℕ) → none ≡ first_refused_from rest k n → lines_from first s (i + k) n ≡ []
+  no_lines : (n k : ℕ) → None ≡ first_refused_from rest k n → lines_from first s (i + k) n ≡ []
   unfolding first_refused_from lines_from record_line
   no_lines zero k e = refl
   no_lines (suc n) k e = by (record_refusal (record_at rest k)) refl e (no_lines n (suc k))
@@ -87,40 +59,39 @@ module _ (first : ℕ) (s : List ℕ) (i : ℕ) where
       by :
           (o : Option ℕ) →
           record_refusal (record_at rest k) ≡ o →
-          none ≡ or_else (refusal_at k o) (first_refused_from rest (suc k) n) →
-          (none ≡ first_refused_from rest (suc k) n → lines_from first s (i + suc k) n ≡ []) →
+          None ≡ or_else (refusal_at k o) (first_refused_from rest (suc k) n) →
+          (None ≡ first_refused_from rest (suc k) n → lines_from first s (i + suc k) n ≡ []) →
           lines_from first s (i + k) (suc n) ≡ []
-      by none eo e later =
-          let here : record_refusal (record_at s (i + k)) ≡ none = rw (rest-record s i k) at eo in
+      by None eo e later =
+          let here : record_refusal (record_at s (i + k)) ≡ None = rw (rest-record s i k) at eo in
           let on : suc (i + k) ≡ i + suc k = omega arith in
           rw (here, on) (later e)
-      by (some x) eo e later = cc
+      by (Some x) eo e later = cc
 
--- the lines before record i are stored; those that are left, stored from here, give the whole
-pub record Told (first : ℕ) (s before after : List ℕ) (i took : ℕ) : Type 0 where
-  pub room : length after ≡ length before
-  pub within : took ≤ 50 * i
-  pub content : sets after took (lines_from first s i (whole_records s - i)) ≡ sets before 0 (refused_lines first s)
-  pub exact : took + length (lines_from first s i (whole_records s - i)) ≡ length (refused_lines first s)
+-- before record i: what was told and the lines that are left give the whole
+pub record Told (first : ℕ) (s before after : List ℕ) (i : ℕ) : Type 0 where
+  pub within : length after ≤ length before + 50 * i
+  pub content : after ++ lines_from first s i (whole_records s - i) ≡ before ++ refused_lines first s
 
 module _ (first : ℕ) (s before : List ℕ) where
-  pub told_none : Told first s before before 0 0
+  pub told_none : Told first s before before 0
   unfolding refused_lines
   told_none =
       let all : whole_records s - 0 ≡ whole_records s = sub-zero (whole_records s) in
-      record { room = refl; within = omega arith; content = rw all; exact = rw all (omega arith) }
+      record { within = omega arith; content = rw all }
 
   -- the line of the next refused record
   pub told_line :
-      (after next : List ℕ) (i took more : ℕ) (p : Refusal) →
+      (after line next : List ℕ) (i : ℕ) (p : Refusal) →
       i ≤ whole_records s →
-      Told first s before after i took →
-      some p ≡ first_refused (drop (16 * i) s) →
-      Stored (line_of first i p) took 50 after next more →
-      length next ≡ length after →
-      Told first s before next (i + p.index + 1) (took + more)
+      Told first s before after i →
+      Some p ≡ first_refused (drop (16 * i) s) →
+      line ≡ line_of first i p →
+      length line ≤ 50 →
+      next ≡ after ++ line →
+      Told first s before next (i + p.index + 1)
   unfolding first_refused
-  told_line after next i took more p le t e st same =
+  told_line after line next i p le t e is short more =
       let r = drop (16 * i) s in
       let whole : whole_records r ≡ whole_records s - i = omega (arith, length-drop (16 * i) s) in
       let zero-on : i + 0 ≡ i = omega arith in
@@ -132,63 +103,45 @@ module _ (first : ℕ) (s before : List ℕ) where
       rw (zero-on, whole, on, left) at (next-line first s i (whole_records r) 0 p e)
       in
       record {
-        room = same ∙ t.room;
-        within = omega (arith, t.within, st.within);
+        within = rw (more, length-append) (omega (arith, t.within, short));
         content =
-            run-left after next _ (line_of first i p) (lines_from first s (i + p.index + 1) _) took (took + more)
-            (omega (arith, st.exact))
-            (rw lines at t.content)
-            st.content;
-        exact = omega (arith, st.exact, rw (lines, length-append) at t.exact);
+            rw (more, is, append_assoc after (line_of first i p) _, ← lines) t.content;
       }
 
   -- the end
   pub told-all :
-      (after : List ℕ) (i took : ℕ) →
+      (after : List ℕ) (i : ℕ) →
       i ≤ whole_records s →
-      Told first s before after i took →
-      none ≡ first_refused (drop (16 * i) s) →
-      50 * whole_records s ≤ length before →
-      Stored (refused_lines first s) 0 (length before) before after took
+      Told first s before after i →
+      None ≡ first_refused (drop (16 * i) s) →
+      after ≡ before ++ refused_lines first s
   unfolding first_refused
-  told-all after i took le t e room =
+  told-all after i le t e =
       let r = drop (16 * i) s in
       let whole : whole_records r ≡ whole_records s - i = omega (arith, length-drop (16 * i) s) in
       let zero-on : i + 0 ≡ i = omega arith in
       let lines : lines_from first s i (whole_records s - i) ≡ [] =
       rw (zero-on, whole) at (no_lines first s i (whole_records r) 0 e)
       in
-      record {
-        content = rw lines at t.content;
-        exact = omega (arith, rw lines at t.exact);
-        within = omega (arith, t.within);
-      }
+      sym (append-nil after) ∙ (rw lines at t.content)
 
 -- the records that have room
 pub has_room : (s : List ℕ) (n : ℕ) → 50 * whole_records (take (16 * (n / 50)) s) ≤ n
 has_room s n = omega (arith, length-take (16 * (n / 50)) s)
 
 -- the end of the input: an answer says whether there was a refusal, and which
-not-refused : (o : Option ℕ) → done ≡ unless_refused o done → o ≡ none
-not-refused none e = refl
-not-refused (some n) e = cc
+not-refused : (o : Option ℕ) → done ≡ unless_refused o done → o ≡ None
+not-refused None e = refl
+not-refused (Some n) e = cc
 
-refused-by : (o : Option ℕ) (n : ℕ) → refused n ≡ unless_refused o done → o ≡ some n
-refused-by none n e = cc
-refused-by (some k) n e = cc
+refused-by : (o : Option ℕ) (n : ℕ) → refused n ≡ unless_refused o done → o ≡ Some n
+refused-by None n e = cc
+refused-by (Some k) n e = cc
 
-pub some-line :
-    (line : Line) (records n refusal : ℕ) →
-    line ≡ as_line (refused_line (records ∷ refusal ∷ [])) →
-    refused refusal ≡ unless_refused (end_refusal n) done →
-    line ≡ as_line (end_line records n)
+pub some-line : (records n refusal : ℕ) → refused refusal ≡ unless_refused (end_refusal n) done → refused_line (records ∷ refusal ∷ []) ≡ end_line records n
 unfolding end_line
-some-line line records n refusal e answer = rw (refused-by (end_refusal n) refusal answer) e
+some-line records n refusal answer = rw (refused-by (end_refusal n) refusal answer)
 
-pub none-line :
-    (line : Line) (records n : ℕ) →
-    line ≡ as_line [] →
-    done ≡ unless_refused (end_refusal n) done →
-    line ≡ as_line (end_line records n)
+pub none-line : (records n : ℕ) → done ≡ unless_refused (end_refusal n) done → [] ≡ end_line records n
 unfolding end_line
-none-line line records n e answer = rw (not-refused (end_refusal n) answer) e
+none-line records n answer = rw (not-refused (end_refusal n) answer)

@@ -1,6 +1,6 @@
 -- Laws of the records of a file.
 use Rattle.std.proofs.Common.{◌≡◌, ℕ, zero, suc, ◌+◌, ◌-◌, ◌*◌, ◌%◌, ◌<◌, ◌≤◌, List, [], length, take, drop, sym, refl, ap, ◌∙◌, add-zero, add-suc, add-one, arith, length-drop, length-take, take_all, drop-drop, eq-eqb, ne_eqb}
-use mathlib.Core.Option.{Option, none, some}
+use Rattle.std.specs.Prelude.{Option, None, Some}
 use native.Mathlib.Nat.{sub-zero}
 use Rattle.monitor.specs.declared.record.Monitor.{Monitor}
 use Rattle.rules.specs.Answers.{refused, done, unless_refused}
@@ -12,7 +12,7 @@ use Rattle.events.specs.Files.{end_refusal, record_at, whole_records, calls_befo
 use Rattle.events.specs.Files.{refusal_at, first_refused_from, first_refused, accepted_records}
 
 -- a refused record leaves the monitor untouched
-untouched-by : (c : Call) (m : Monitor) (n : ℕ) → refusal_of c ≡ some n → after c m ≡ m
+untouched-by : (c : Call) (m : Monitor) (n : ℕ) → refusal_of c ≡ Some n → after c m ≡ m
 unfolding after_settings after_elapsed after_clock
 untouched-by (settings s) m n e = rw e
 untouched-by (completion c) m n e = cc
@@ -23,37 +23,37 @@ untouched-by (page k) m n e = refl
 untouched-by (settings_back k) m n e = refl
 untouched-by (below_a w) m n e = refl
 
-pub untouched : (m : Monitor) (r : List ℕ) (n : ℕ) → record_refusal r ≡ some n → after_record m r ≡ m
+pub untouched : (m : Monitor) (r : List ℕ) (n : ℕ) → record_refusal r ≡ Some n → after_record m r ≡ m
 unfolding record_refusal after_record play_from
 untouched m r n e = by (call_of r) e
   where
-    by : (o : Option Call) → found (some 11) refusal_of o ≡ some n → play_from m (and_then o []) ≡ m
-    by none e = refl
-    by (some c) e = untouched-by c m n e
+    by : (o : Option Call) → found (Some 11) refusal_of o ≡ Some n → play_from m (and_then o []) ≡ m
+    by None e = refl
+    by (Some c) e = untouched-by c m n e
 
 -- one call more, or none
 pub then_one :
     (m : Monitor) (h : History) (o : Option Call) →
     play_from (play_from m h) (and_then o []) ≡ play_from m (and_then o h)
 unfolding play_from
-then_one m h none = refl
-then_one m h (some c) = refl
+then_one m h None = refl
+then_one m h (Some c) = refl
 
 pub then_same :
     (a b : Monitor) (h k : History) (o : Option Call) →
     play_from a h ≡ play_from b k →
     play_from a (and_then o h) ≡ play_from b (and_then o k)
 unfolding play_from
-then_same a b h k none e = e
-then_same a b h k (some c) e = ap (after c) e
+then_same a b h k None e = e
+then_same a b h k (Some c) e = ap (after c) e
 
 -- the search passes an accepted record, and stops at a refused one
 module _ (s : List ℕ) (i n : ℕ) where
-  pass : record_refusal (record_at s i) ≡ none → first_refused_from s i (suc n) ≡ first_refused_from s (suc i) n
+  pass : record_refusal (record_at s i) ≡ None → first_refused_from s i (suc n) ≡ first_refused_from s (suc i) n
   unfolding first_refused_from
   pass e = rw e
 
-  stop : (k : ℕ) → record_refusal (record_at s i) ≡ some k → first_refused_from s i (suc n) ≡ refusal_at i (some k)
+  stop : (k : ℕ) → record_refusal (record_at s i) ≡ Some k → first_refused_from s i (suc n) ≡ refusal_at i (Some k)
   unfolding first_refused_from
   stop k e = rw e
 
@@ -86,12 +86,12 @@ module _ (m : Monitor) (s : List ℕ) where
         Ran m s monitor i →
         r ≡ record_at s i →
         next ≡ after_record monitor r →
-        record_refusal r ≡ none →
+        record_refusal r ≡ None →
         i < whole_records s →
         Ran m s next (i + 1)
     unfolding calls_before after_record
     went_on (le, played, rest) er en accepted h =
-        let here : record_refusal (record_at s i) ≡ none = rw er at accepted in
+        let here : record_refusal (record_at s i) ≡ None = rw er at accepted in
         let more : whole_records s - i ≡ suc (whole_records s - suc i) = omega arith in
         rw (add-one i) (
           omega arith,
@@ -105,32 +105,32 @@ module _ (m : Monitor) (s : List ℕ) where
         Ran m s monitor i →
         r ≡ record_at s i →
         next ≡ after_record monitor r →
-        record_refusal r ≡ some n →
+        record_refusal r ≡ Some n →
         i < whole_records s →
-        Stopped m s next (refusal_at i (some n))
+        Stopped m s next (refusal_at i (Some n))
     unfolding accepted_records
     stopped n (le, played, rest) er en refusal h =
-        let here : record_refusal (record_at s i) ≡ some n = rw er at refusal in
+        let here : record_refusal (record_at s i) ≡ Some n = rw er at refusal in
         let more : whole_records s - i ≡ suc (whole_records s - suc i) = omega arith in
-        let first : first_refused s ≡ refusal_at i (some n) =
+        let first : first_refused s ≡ refusal_at i (Some n) =
         sym (rw more at rest) ∙ stop s i (whole_records s - suc i) n here
         in
         (rw first (en ∙ (untouched monitor r n refusal ∙ played)), sym first)
 
   -- the end
-  pub ended : (monitor : Monitor) (i : ℕ) → Ran m s monitor i → whole_records s ≤ i → Stopped m s monitor none
+  pub ended : (monitor : Monitor) (i : ℕ) → Ran m s monitor i → whole_records s ≤ i → Stopped m s monitor None
   unfolding accepted_records first_refused_from
   ended monitor i (le, played, rest) h =
       let all : i ≡ whole_records s = omega arith in
       let none_left : whole_records s - i ≡ 0 = omega arith in
-      let first : first_refused s ≡ none = sym (rw none_left at rest) in
+      let first : first_refused s ≡ None = sym (rw none_left at rest) in
       (rw (first, ← all) played, sym first)
 
 -- what the first refused record is
 abbrev pub Found : List ℕ → (i n : ℕ) → Refusal → Type 0
-Found s i n p = (p.index < i + n) × (record_refusal (record_at s p.index) ≡ some p.number)
+Found s i n p = (p.index < i + n) × (record_refusal (record_at s p.index) ≡ Some p.number)
 
-pub found_at : (s : List ℕ) (n i : ℕ) (p : Refusal) → some p ≡ first_refused_from s i n → Found s i n p
+pub found_at : (s : List ℕ) (n i : ℕ) (p : Refusal) → Some p ≡ first_refused_from s i n → Found s i n p
 unfolding first_refused_from
 found_at s zero i p e = let z : ◌≡◌ {A = ℕ} 0 1 = cc in absurd (omega arith)
 found_at s (suc n) i p e = by (record_refusal (record_at s i)) refl e (found_at s n (suc i) p)
@@ -138,11 +138,11 @@ found_at s (suc n) i p e = by (record_refusal (record_at s i)) refl e (found_at 
     by :
         (o : Option ℕ) →
         record_refusal (record_at s i) ≡ o →
-        some p ≡ or_else (refusal_at i o) (first_refused_from s (suc i) n) →
-        (some p ≡ first_refused_from s (suc i) n → Found s (suc i) n p) →
+        Some p ≡ or_else (refusal_at i o) (first_refused_from s (suc i) n) →
+        (Some p ≡ first_refused_from s (suc i) n → Found s (suc i) n p) →
         Found s i (suc n) p
-    by none eo e later = (omega (arith, (later e).0), (later e).1)
-    by (some k) eo e later =
+    by None eo e later = (omega (arith, (later e).0), (later e).1)
+    by (Some k) eo e later =
         let index_is : p.index ≡ i = ap (found 0 (λ (x : Refusal). x.index)) e in
         let number_is : p.number ≡ k = ap (found 0 (λ (x : Refusal). x.number)) e in
         (omega arith, rw (index_is, number_is) eo)
@@ -165,7 +165,7 @@ composed m s i (suc k) =
 
 skip :
     (m : Monitor) (s : List ℕ) (j n : ℕ) →
-    record_refusal (record_at s j) ≡ some n →
+    record_refusal (record_at s j) ≡ Some n →
     play_from m (calls_before s (suc j)) ≡ play_from m (calls_before s j)
 unfolding calls_before after_record
 skip m s j n e =
@@ -181,13 +181,13 @@ module _ (m : Monitor) (s : List ℕ) (monitor next : Monitor) (i : ℕ) where
   pub skipped :
       (p : Refusal) →
       Replayed m s monitor i →
-      Stopped monitor (drop (16 * i) s) next (some p) →
+      Stopped monitor (drop (16 * i) s) next (Some p) →
       Replayed m s next (i + p.index + 1)
   unfolding accepted_records first_refused
   skipped p (le, played) (en, h) =
       let t = drop (16 * i) s in
       let f = found_at t (whole_records t) 0 p h in
-      let here : record_refusal (record_at s (i + p.index)) ≡ some p.number =
+      let here : record_refusal (record_at s (i + p.index)) ≡ Some p.number =
       rw (rest-record s i p.index) at f.1
       in
       let stop-at : accepted_records t ≡ p.index = rw (← h) refl in (
@@ -200,7 +200,7 @@ module _ (m : Monitor) (s : List ℕ) (monitor next : Monitor) (i : ℕ) where
   -- to the end
   pub replayed :
       Replayed m s monitor i →
-      Stopped monitor (drop (16 * i) s) next none →
+      Stopped monitor (drop (16 * i) s) next None →
       next ≡ play_from m (history_of s)
   unfolding accepted_records history_of
   replayed (le, played) (en, h) =

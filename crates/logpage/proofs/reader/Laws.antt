@@ -1,7 +1,7 @@
 -- Laws of the page's reader: for each way out, what the definitions come to.
 use mathlib.Core.Bool.{Bool, true, false, not, ◌&&◌}
 use mathlib.Core.List.{List}
-use mathlib.Core.Option.{none, some}
+use Rattle.std.specs.Prelude.{None, Some}
 use mathlib.Core.Path.{◌≡◌, ◌∙◌, sym}
 use Prim.Native.Nat.{ℕ, ◌<◌}
 use borrow.Author.Tests.{eq-eqb, ne_eqb}
@@ -49,10 +49,10 @@ module _ (page head tail : List ℕ) (active static : Window) (kept : Bool)
   as_fits : kept ≡ page_fits page
   as_fits = ek ∙ rw (eh, et, ea, es)
 
-  pub laid_out : kept ≡ true → layout_refusal page ≡ none
+  pub laid_out : kept ≡ true → layout_refusal page ≡ None
   laid_out k = rw (sym as_fits ∙ k)
 
-  pub not-laid-out : kept ≡ false → layout_refusal page ≡ some 15
+  pub not-laid-out : kept ≡ false → layout_refusal page ≡ Some 15
   not-laid-out k = rw (sym as_fits ∙ k)
 
   pub fields_read :
@@ -79,10 +79,10 @@ pub right_identity :
 unfolding read_refusal
 right_identity page h e = rw (eq-eqb (length page) 512 h, e)
 
-pub wrong-identity : (page : List ℕ) → length page ≡ 512 → identified page ≡ false → read_refusal page ≡ some 14
+pub wrong-identity : (page : List ℕ) → length page ≡ 512 → identified page ≡ false → read_refusal page ≡ Some 14
 unfolding read_refusal
 wrong-identity page h e = rw (eq-eqb (length page) 512 h, e)
 
-pub wrong-length : (page : List ℕ) → (length page ≡ 512 → ⊥) → read_refusal page ≡ some 13
+pub wrong-length : (page : List ℕ) → (length page ≡ 512 → ⊥) → read_refusal page ≡ Some 13
 unfolding read_refusal
 wrong-length page h = rw (ne_eqb (length page) 512 h)

@@ -2,8 +2,9 @@
 use mathlib.Core.Bool.{Bool, true, false, cond, not, true≢false, ◌&&◌, ◌||◌}
 use mathlib.Core.List.{List, [], ◌∷◌}
 use mathlib.Core.Logic.{◌↔◌}
-use mathlib.Core.Option.{Option, none, some, none-ne-some}
-use mathlib.Core.Path.{◌≡◌, refl, sym, ◌∙◌}
+use Rattle.std.specs.Prelude.{Option, None, Some}
+use Rattle.std.specs.Option.{is_some}
+use mathlib.Core.Path.{◌≡◌, refl, sym, ap, ◌∙◌}
 use Prim.Native.Nat.{ℕ, zero, suc, ◌+◌, ◌-◌, ◌<◌, ◌≤◌}
 use native.Mathlib.Omega.{arith}
 use borrow.Author.Tests.{ltb-true, ltb-false}
@@ -14,7 +15,7 @@ use Rattle.logpage.specs.declared.fields.Settings.{Settings}
 use Rattle.rules.specs.declared.commands.Command.{Command}
 use Rattle.monitor.specs.declared.record.Monitor.{Monitor}
 use Rattle.rules.specs.Answers.{loaded_in}
-use Rattle.rules.specs.Commands.{kind_of, has_kind, bucket_of, counter_at, counter_of, counter_number, reaches_a}
+use Rattle.rules.specs.Commands.{kind_of, has_kind, bucket_of, counter_at, counter_of, reaches_a}
 use Rattle.rules.specs.Commands.{is_below_a, milliseconds_of}
 use Rattle.rules.specs.Counting.{bit, larger, waited, loads}
 use Rattle.monitor.specs.Reasons.{lowest, applying, reason_of, stamp_reason_of, IsLowest, AnswersLowest}
@@ -22,6 +23,9 @@ use Rattle.monitor.specs.Reasons.{ZeroWhereLoaded}
 use Rattle.monitor.specs.Record.{since_load, completion_answer}
 use Rattle.rules.specs.Timer.{in_window}
 use Rattle.rules.proofs.commands.Laws.{Becomes, slow, fast, kindless, disabled, becomes, at-no-kind, counter-enabled}
+
+pub nothing-there : {A : Type 0} (x : A) → ◌≡◌ {A = Option A} None (Some x) → ⊥
+nothing-there x e = true≢false (sym (ap is_some e))
 
 -- r is the number of the first of a list that is true, counted from n on, or 0
 data First (l : List Bool) (n r : ℕ) : Type 0 where
@@ -96,16 +100,16 @@ record Counts (s : Settings) (c : Command) (n : ℕ) : Type 0 where
   on : s.enabled ≡ true
   kind : has_kind c ≡ true
   slow-enough : reaches_a s.thresholds c ≡ true
-  counter : counter_at (bucket_of s.thresholds c) (kind_of c) ≡ some n
+  counter : counter_at (bucket_of s.thresholds c) (kind_of c) ≡ Some n
 
-has-kind : (bucket : Option ℕ) (c : Command) (n : ℕ) → counter_at bucket (kind_of c) ≡ some n → has_kind c ≡ true
+has-kind : (bucket : Option ℕ) (c : Command) (n : ℕ) → counter_at bucket (kind_of c) ≡ Some n → has_kind c ≡ true
 has-kind bucket c n e = by (kind_of c) refl
   where
     by : (kind : Option ℕ) → kind_of c ≡ kind → has_kind c ≡ true
-    by (some k) is = rw is
-    by none is = absurd (none-ne-some n (sym (at-no-kind bucket) ∙ (rw is at e)))
+    by (Some k) is = rw is
+    by None is = absurd (nothing-there n (sym (at-no-kind bucket) ∙ (rw is at e)))
 
-counts : (s : Settings) (c : Command) (n : ℕ) → counter_of s c ≡ some n → Counts s c n
+counts : (s : Settings) (c : Command) (n : ℕ) → counter_of s c ≡ Some n → Counts s c n
 unfolding counter_of
 counts s c n e = by (reaches_a s.thresholds c) refl
   where
@@ -116,12 +120,12 @@ counts s c n e = by (reaches_a s.thresholds c) refl
     by true a =
         let counter = rw (on, a) at e in
         record { on = on; kind = has-kind (bucket_of s.thresholds c) c n counter; slow-enough = a; counter = counter }
-    by false a = absurd (none-ne-some n (rw (on, a) at e))
+    by false a = absurd (nothing-there n (rw (on, a) at e))
 
 -- reasons 4 to 6, of a completion that has a counter
 pub reason-of-counter :
     (m : Monitor) (c : Command) (n ms : ℕ) →
-    counter_of m.settings c ≡ some n →
+    counter_of m.settings c ≡ Some n →
     ms ≡ milliseconds_of c →
     reason_of m c ≡ stamp_reason_of m ms n
 unfolding reason_of stamp_reason_of lowest
@@ -129,18 +133,18 @@ reason-of-counter m c n ms e measured =
     let counted = counts m.settings c n e in
     rw (counted.on, counted.kind, counted.slow-enough, counted.counter, measured)
 
--- an enabled completion of a kind that is not below threshold A has a counter
-pub has-counter :
-    (s : Settings) (c : Command) →
-    s.enabled ≡ true →
+-- an enabled completion of a kind that has no counter is below threshold A
+pub below-without-counter :
+    (m : Monitor) (c : Command) →
+    m.settings.enabled ≡ true →
     has_kind c ≡ true →
-    is_below_a s c ≡ false →
-    counter_number (counter_of s c) < 12
-has-counter s c on has reached = by (becomes s c)
+    counter_of m.settings c ≡ None →
+    is_below_a m.settings c ≡ true
+below-without-counter m c on has nowhere = by (becomes m.settings c)
   where
-    by : Becomes s c → counter_number (counter_of s c) < 12
-    by (slow k b few low on' kind reached' e) = rw e (omega arith)
-    by (fast k few on' kind below e e') = absurd (true≢false (sym below ∙ reached))
+    by : Becomes m.settings c → is_below_a m.settings c ≡ true
+    by (slow k b few low on' kind reached e) = absurd (nothing-there _ (sym nowhere ∙ e))
+    by (fast k few on' kind below e e') = below
     by (kindless kind e e') = absurd (true≢false (sym has ∙ (rw kind)))
     by (disabled off e e') = absurd (true≢false (sym on ∙ off))
 
@@ -180,11 +184,11 @@ zero-where false true true false = ((λ e. absurd (omega arith)), (λ e. absurd 
 zero-where false true true true = ((λ e. refl), (λ e. refl))
 
 -- without a counter no stamp is loaded, and there is a reason
-no_zero : (m : Monitor) (c : Command) → counter_of m.settings c ≡ none → reason_of m c ≡ 0 → ⊥
+no_zero : (m : Monitor) (c : Command) → counter_of m.settings c ≡ None → reason_of m c ≡ 0 → ⊥
 no_zero m c none_is zero_is = by (becomes m.settings c)
   where
     by : Becomes m.settings c → ⊥
-    by (slow k b few low on kind reached e) = none-ne-some _ (sym none_is ∙ e)
+    by (slow k b few low on kind reached e) = nothing-there _ (sym none_is ∙ e)
     by (fast k few on kind below e e') = omega (arith, zero_is, reason-below-a m c on (rw kind) below)
     by (disabled off e e') = omega (arith, zero_is, reason-disabled m c off)
     by (kindless kind e e') = either m.settings.enabled refl
@@ -201,8 +205,8 @@ zero-where-loaded m c = by (counter_of m.settings c) refl
         (o : Option ℕ) →
         counter_of m.settings c ≡ o →
         (reason_of m c ≡ 0) ↔ (loaded_in (completion_answer m c) ≡ true)
-    by none e = ((λ z. absurd (no_zero m c e z)), (λ l. absurd (true≢false (sym (rw e at l)))))
-    by (some n) e =
+    by None e = ((λ z. absurd (no_zero m c e z)), (λ l. absurd (true≢false (sym (rw e at l)))))
+    by (Some n) e =
         rw (reason-of-counter m c n _ e refl, ← stamp-reason m (milliseconds_of c) n _ _ _ _ _ refl refl refl refl refl, e)
         (zero-where (eqb (get_or m.active_window.stamps n 0) unset) (bit m.settings.mode n)
         (larger (get_or m.active_window.latencies n 0) (milliseconds_of c))

@@ -2,7 +2,7 @@
 use mathlib.Core.Path.{◌≡◌}
 use mathlib.Core.Bool.{Bool, false, cond}
 use mathlib.Core.List.{List}
-use mathlib.Core.Option.{some, none}
+use Rattle.std.specs.Prelude.{Some, None}
 use Prim.Native.Nat.{ℕ, ◌≤◌}
 use lib.Dec.{eqb}
 use lib.ListN.{set}
@@ -30,7 +30,7 @@ use Rattle.monitor.specs.Record.{completion_answer, after_elapsed, elapsed_answe
 -- a completion without a counter, by the counts below threshold A that it leaves
 pub uncounted :
     (m : Monitor) (c : Command) (counts : List ℕ) →
-    counter_of m.settings c ≡ none →
+    counter_of m.settings c ≡ None →
     counts ≡ counted_below_a (below_a_of m.settings c) m.active_below_a →
     (with_below_a m counts ≡ after_completion m c) × (not_counted ≡ completion_answer m c)
 unfolding after_completion completion_answer
@@ -50,7 +50,7 @@ configured m next debug on = with_debug_log (with_settings (restarted_if on m) n
 
 pub settings-accepted :
     (m : Monitor) (s : List ℕ) (next : Settings) (debug : DebugLog) (on : Bool) →
-    settings_refusal s ≡ none →
+    settings_refusal s ≡ None →
     next ≡ decoded s →
     debug ≡ cond (eqb (discard s) 1) no_debug_log m.debug →
     next.enabled ≡ on →
@@ -62,7 +62,7 @@ settings-accepted m s next debug on accepted read keeps enables =
 -- a completion that is neither below threshold A nor counted
 pub not-counted :
     (m : Monitor) (c : Command) →
-    counter_of m.settings c ≡ none →
+    counter_of m.settings c ≡ None →
     is_below_a m.settings c ≡ false →
     (m ≡ after_completion m c) × (not_counted ≡ completion_answer m c)
 not-counted m c e reached = uncounted m c _ e (rw (below-a-kind m.settings c false reached))
@@ -87,7 +87,7 @@ pub record Decided (m : Monitor) (c : Command) (n ms : ℕ) (log : DebugLog) (co
 
 pub decide :
     (m : Monitor) (c : Command) (n ms : ℕ) (log : DebugLog) (counters : List ℕ) (debug load : Bool) →
-    counter_of m.settings c ≡ some n →
+    counter_of m.settings c ≡ Some n →
     ms ≡ milliseconds_of c →
     debug ≡ triggers (bit m.settings.trigger n) m.debug.stamp →
     log ≡ cond debug (debug_log n m.clock ms m.host_set) m.debug →

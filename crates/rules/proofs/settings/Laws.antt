@@ -1,7 +1,7 @@
 -- The rows that turn settings away, a law for each: the rows before it do not apply, and it does.
 use mathlib.Core.Path.{◌≡◌, refl}
 use mathlib.Core.Bool.{true, false}
-use mathlib.Core.Option.{Option, some, none}
+use Rattle.std.specs.Prelude.{Option, Some, None}
 use mathlib.Core.List.{List, [], ◌∷◌}
 use Prim.Native.Nat.{ℕ}
 use native.Mathlib.Omega.{arith}
@@ -17,13 +17,13 @@ use Rattle.rules.specs.Settings.{decoded, encoded, discard as discard_of, enable
 use Rattle.rules.specs.Refusals.{settings_refusal, field_refusal, either_above, unordered}
 
 -- what an answer tells of the row
-pub not-refused : (r : Option ℕ) → done ≡ unless_refused r done → r ≡ none
-not-refused none e = refl
-not-refused (some n) e = cc
+pub not-refused : (r : Option ℕ) → done ≡ unless_refused r done → r ≡ None
+not-refused None e = refl
+not-refused (Some n) e = cc
 
-pub refused-by : (r : Option ℕ) (n : ℕ) → refused n ≡ unless_refused r done → r ≡ some n
-refused-by none n e = let never : ◌≡◌ {A = ℕ} 0 1 = cc in absurd (omega arith)
-refused-by (some k) n e = cc
+pub refused-by : (r : Option ℕ) (n : ℕ) → refused n ≡ unless_refused r done → r ≡ Some n
+refused-by None n e = let never : ◌≡◌ {A = ℕ} 0 1 = cc in absurd (omega arith)
+refused-by (Some k) n e = cc
 
 module _ (s : List ℕ) where
   pub length-refused : (length s ≡ 4096 → ⊥) → refused 1 ≡ unless_refused (settings_refusal s) done

@@ -2,41 +2,41 @@
 use Rattle.std.proofs.Common.{◌+◌, ◌*◌, sym, refl, ap, ◌∙◌, arith, rules}
 use borrow.Author.Rules.{part_to_end}
 use Rattle.monitor.specs.Calls.{play_from}
-use Rattle.events.specs.Files.{calls_before, says_halt}
+use Rattle.events.specs.Files.{calls_before, says_refused}
 use Rattle.events.proofs.files.Laws.{Replayed, skipped, replayed}
-use Rattle.events.proofs.files.replay.Goals.{In-Refused}
+use Rattle.events.proofs.files.replay.Goals.{In-Some}
 use Rattle.events.proofs.files.replay.Goals as goal
 
-pub loop-index-init : goal.loop-index-init
+pub loop-refused-init : goal.loop-refused-init
 unfolding play_from calls_before
-loop-index-init c = (search rules, refl)
+loop-refused-init c = (search rules, refl)
 
 -- what a run leaves that stopped at a refused record
 past :
-    (c : goal.In-Refused) →
+    (c : goal.In-Some) →
     Replayed c.args.m
     c.args.s.now
     c.run-stop.result.monitor
-    (c.loop-index.i + c.in-Refused.index + 1)
+    (c.loop-refused.i + c.in-Some.refused.index + 1)
 past c =
-    let monitor = rw (part_to_end _ (16 * c.loop-index.i)) at c.run-stop.ensures.monitor in
-    let halt = rw (part_to_end _ (16 * c.loop-index.i)) at c.run-stop.ensures.halt in
-    skipped _ _ _ _ c.loop-index.i _ c.loop-index.invariant (monitor, sym (ap says_halt c.in-Refused.is) ∙ halt)
+    let monitor = rw (part_to_end _ (16 * c.loop-refused.i)) at c.run-stop.ensures.monitor in
+    let refused = rw (part_to_end _ (16 * c.loop-refused.i)) at c.run-stop.ensures.refused in
+    skipped _ _ _ _ c.loop-refused.i _ c.loop-refused.invariant (monitor, sym (ap says_refused c.in-Some.is) ∙ refused)
 
 pub overflow_add-i : goal.overflow_add-i
-overflow_add-i c = omega (arith, (past (goal.at.overflow_add-i c).In-Refused).0)
+overflow_add-i c = omega (arith, (past (goal.at.overflow_add-i c).In-Some).0)
 
-pub overflow_add-i-in-Refused : goal.overflow_add-i-in-Refused
-overflow_add-i-in-Refused c = omega (arith, (past (goal.at.overflow_add-i-in-Refused c).In-Refused).0)
+pub overflow_add-i-in-Some : goal.overflow_add-i-in-Some
+overflow_add-i-in-Some c = omega (arith, (past (goal.at.overflow_add-i-in-Some c).In-Some).0)
 
-pub loop-index-smaller : goal.loop-index-smaller
-loop-index-smaller c = omega (arith, (past (goal.at.loop-index-smaller c).In-Refused).0)
+pub loop-refused-smaller : goal.loop-refused-smaller
+loop-refused-smaller c = omega (arith, (past (goal.at.loop-refused-smaller c).In-Some).0)
 
-pub loop-index-preserved : goal.loop-index-preserved
-loop-index-preserved c = past (goal.at.loop-index-preserved c).In-Refused
+pub loop-refused-preserved : goal.loop-refused-preserved
+loop-refused-preserved c = past (goal.at.loop-refused-preserved c).In-Some
 
 pub returns : goal.returns
 returns c =
-    let monitor = rw (part_to_end _ (16 * c.loop-index.i)) at c.run-stop.ensures.monitor in
-    let halt = rw (part_to_end _ (16 * c.loop-index.i)) at c.run-stop.ensures.halt in
-    replayed _ _ _ _ c.loop-index.i c.loop-index.invariant (monitor, sym (ap says_halt c.in-End.is) ∙ halt)
+    let monitor = rw (part_to_end _ (16 * c.loop-refused.i)) at c.run-stop.ensures.monitor in
+    let refused = rw (part_to_end _ (16 * c.loop-refused.i)) at c.run-stop.ensures.refused in
+    replayed _ _ _ _ c.loop-refused.i c.loop-refused.invariant (monitor, sym (ap says_refused c.in-None.is) ∙ refused)

@@ -4,8 +4,8 @@ use Rattle.events.specs.Files.{whole_records}
 use Rattle.events.proofs.files.Laws.{Replayed}
 use Rattle.events.proofs.files.replay.Given as goal
 
-abbrev pub invariant-loop-index : goal.invariant-loop-index
-invariant-loop-index l = Replayed l.initial.monitor l.s l.monitor l.i
+abbrev pub invariant-loop-refused : goal.invariant-loop-refused
+invariant-loop-refused l = Replayed l.initial.monitor l.s l.monitor l.i
 
-abbrev pub decreases-loop-index : goal.decreases-loop-index
-decreases-loop-index l = whole_records l.s - l.i
+abbrev pub decreases-loop-refused : goal.decreases-loop-refused
+decreases-loop-refused l = whole_records l.s - l.i

@@ -1,7 +1,7 @@
 -- `run`: before each record, none was refused and the monitor is what the records before it leave.
 use Rattle.std.proofs.Common.{◌+◌, sym, ap, ◌∙◌, arith, rules}
 use Rattle.records.specs.Records.{says_record}
-use Rattle.records.proofs.Laws.{refusal-named, let_through}
+use Rattle.records.proofs.Laws.{refusal_in, refusal-named, let_through}
 use Rattle.events.proofs.files.Laws.{the-record, behind, few-behind, started, went_on}
 use Rattle.events.proofs.files.Laws.{ran-far, stopped, ended}
 use Rattle.events.proofs.files.run.Goals as goal
@@ -9,14 +9,14 @@ use Rattle.events.proofs.files.run.Goals as goal
 pub loop-i-init : goal.loop-i-init
 loop-i-init c = started _ _
 
-pub returns-in-Refused : goal.returns-in-Refused
-returns-in-Refused c =
+pub returns-in-Err : goal.returns-in-Err
+returns-in-Err c =
     let s =
     stopped _ _ _ _ c.loop-i.i _ _ c.loop-i.invariant (the-record _ c.loop-i.i) c.apply-o.ensures.next
-    (refusal-named _ _ _ (sym (ap says_record c.in-Refused.is) ∙ c.apply-o.ensures.answer))
+    (refusal-named _ _ _ (sym (ap says_record c.in-Err.is) ∙ c.apply-o.ensures.answer))
     (search rules)
     in
-    record { monitor = c.refused_at.ensures.monitor ∙ s.0; halt = c.refused_at.ensures.halt ∙ s.1 }
+    record { monitor = s.0; refused = s.1 }
 
 pub overflow_add-i-in-loop-i : goal.overflow_add-i-in-loop-i
 overflow_add-i-in-loop-i c =
@@ -37,7 +37,7 @@ loop-i-preserved c =
     let one =
     went_on _ _ _ _ c.loop-i.i _ c.loop-i.invariant (the-record _ c.loop-i.i) c.apply-o.ensures.next
     (refusal-named _ _ _ c.apply-o.ensures.answer ∙
-    let_through c.apply-o.result.answer c.in_default.not-Refused)
+    ap (λ answer. refusal_in (says_record answer)) c.in_default.is ∙ let_through _)
     (search rules)
     in
     let monitor = rw (behind c.args.s.now c.loop-i.i (search rules)) at c.stretch-quick.ensures.monitor in
@@ -48,4 +48,4 @@ loop-i-preserved c =
 pub returns : goal.returns
 returns c =
     let met = ended _ _ _ c.loop-i.i c.loop-i.invariant (search rules) in
-    record { monitor = met.0; halt = met.1 }
+    record { monitor = met.0; refused = met.1 }

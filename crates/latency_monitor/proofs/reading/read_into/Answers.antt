@@ -1,6 +1,6 @@
 -- `read_into`: what the reader hands back, or the old fields.
 use mathlib.Core.List.{List}
-use mathlib.Core.Option.{none, some}
+use Rattle.std.specs.Prelude.{None, Some}
 use mathlib.Core.Path.{◌≡◌, sym, ap, ◌∙◌}
 use Prim.Native.Nat.{ℕ}
 use Rattle.logpage.specs.Answers.{refusal_in}
@@ -12,14 +12,14 @@ use Rattle.latency_monitor.proofs.reading.read_into.Goals as goal
 
 turned-away :
     (old : Reading) (page : List ℕ) (n : ℕ) →
-    read_refusal page ≡ some n →
+    read_refusal page ≡ Some n →
     (old ≡ read_into old page) × (refused n ≡ read_answer page)
 unfolding read_into read_answer
 turned-away old page n e = (rw e, rw e)
 
 read_whole :
     (old r : Reading) (page : List ℕ) →
-    read_refusal page ≡ none →
+    read_refusal page ≡ None →
     r ≡ reading_of page →
     (r ≡ read_into old page) × (done ≡ read_answer page)
 unfolding read_into read_answer reading_of

@@ -10,4 +10,4 @@ returns-then-d-eq-UNSET c = rw (eq-eqb c.args.d.stamp unset c.if-d-eq-UNSET.true
 
 pub returns-else-d-eq-UNSET : goal.returns-else-d-eq-UNSET
 unfolding debug_fits
-returns-else-d-eq-UNSET c = rw (ne_eqb c.args.d.stamp unset c.if-d-eq-UNSET.false)
+returns-else-d-eq-UNSET c = rw (ne_eqb c.args.d.stamp unset c.if-d-eq-UNSET.false, c.from.ensures)

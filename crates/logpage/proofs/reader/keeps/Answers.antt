@@ -4,7 +4,7 @@ use Rattle.logpage.proofs.reader.keeps.Goals as goal
 
 pub returns : goal.returns
 returns c =
-    page-kept c.args.page.now c.args.head c.args.tail c.args.active_window
+    page-kept c.args.page.now c.args.head.values c.args.tail.values c.args.active_window
     c.args.static_window
     _
     _

@@ -1,7 +1,6 @@
 -- `highest`: the buckets passed were not reached, so the search among those left decides.
-use mathlib.Core.Path.{sym, ap, ◌∙◌}
+use mathlib.Core.Path.{sym, ◌∙◌}
 use mathlib.Core.List.{◌∷◌, []}
-use Rattle.rules.specs.Commands.{bucket_number}
 use Rattle.rules.proofs.commands.Laws.{hit, miss, nothing}
 use borrow.Author.Rules.{rules}
 use Rattle.rules.proofs.commands.highest.Goals as goal
@@ -11,10 +10,8 @@ loop-n-preserved c = (search rules, sym (miss (c.args.a ∷ c.args.b ∷ c.args.
 
 pub returns-then-n-eq0 : goal.returns-then-n-eq0
 returns-then-n-eq0 c =
-    ap bucket_number
-    (sym (nothing (c.args.a ∷ c.args.b ∷ c.args.c ∷ c.args.d ∷ [])) ∙ (rw c.if-n-eq0.true at c.loop-n.invariant.1))
+    sym (nothing (c.args.a ∷ c.args.b ∷ c.args.c ∷ c.args.d ∷ [])) ∙ (rw c.if-n-eq0.true at c.loop-n.invariant.1)
 
 pub returns-then-reached-n : goal.returns-then-reached-n
 returns-then-reached-n c =
-    ap bucket_number
-    (sym (hit (c.args.a ∷ c.args.b ∷ c.args.c ∷ c.args.d ∷ []) c.loop-n.n (search rules) c.if-reached-n.true) ∙ c.loop-n.invariant.1)
+    sym (hit (c.args.a ∷ c.args.b ∷ c.args.c ∷ c.args.d ∷ []) c.loop-n.n (search rules) c.if-reached-n.true) ∙ c.loop-n.invariant.1

@@ -1,24 +1,33 @@
 -- `LogPage::read`, by its three rows.
 use mathlib.Core.Path.{sym, ap, ◌∙◌}
-use Rattle.logpage.specs.Answers.{refusal_in}
-use Rattle.logpage.specs.Reader.{reading_of}
+use Rattle.logpage.specs.Reader.{identified, layout_refusal, reading_of}
 use Rattle.logpage.proofs.reader.Laws.{right_identity, wrong-identity, wrong-length}
 use Rattle.logpage.proofs.page.LogPage.read.Goals as goal
 
 pub returns-then-identified : goal.returns-then-identified
 unfolding reading_of
 returns-then-identified c =
-    let row = right_identity c.args.page.now c.if-page-eq512.true (sym c.identified.ensures ∙ c.if-identified.true) in
-    record { answer = c.read_identified.ensures.answer ∙ sym row; reading = c.read_identified.ensures.reading ∙ rw row }
+    let whole = (rw c.in-Ok.is at c.try_from.ensures).1 in
+    let row =
+    right_identity c.args.page.now whole.long
+    (ap identified (sym whole.same) ∙ (sym c.identified.ensures ∙ c.if-identified.true))
+    in
+    let layout = ap layout_refusal whole.same in
+    let read = c.read_identified.ensures in
+    record { answer = read.answer ∙ (layout ∙ sym row); reading = read.reading ∙ rw (whole.same, row) }
 
 pub returns-else-identified : goal.returns-else-identified
 unfolding reading_of
 returns-else-identified c =
-    let row = wrong-identity c.args.page.now c.if-page-eq512.true (sym c.identified.ensures ∙ c.if-identified.false) in
-    record { answer = ap refusal_in c.refused.ensures.0 ∙ sym row; reading = c.refused.ensures.1 ∙ rw row }
+    let whole = (rw c.in-Ok.is at c.try_from.ensures).1 in
+    let row =
+    wrong-identity c.args.page.now whole.long
+    (ap identified (sym whole.same) ∙ (sym c.identified.ensures ∙ c.if-identified.false))
+    in
+    record { answer = sym row; reading = rw row }
 
-pub returns-else-page-eq512 : goal.returns-else-page-eq512
+pub returns-in-Err : goal.returns-in-Err
 unfolding reading_of
-returns-else-page-eq512 c =
-    let row = wrong-length c.args.page.now c.if-page-eq512.false in
-    record { answer = ap refusal_in c.refused-else-page-eq512.ensures.0 ∙ sym row; reading = c.refused-else-page-eq512.ensures.1 ∙ rw row }
+returns-in-Err c =
+    let row = wrong-length c.args.page.now (rw c.in-Err.is at c.try_from.ensures).1 in
+    record { answer = sym row; reading = rw row }

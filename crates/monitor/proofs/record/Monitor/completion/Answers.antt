@@ -2,7 +2,6 @@
 use mathlib.Core.Path.{◌≡◌, sym, ◌∙◌}
 use mathlib.Core.Bool.{Bool, true, false}
 use Rattle.rules.specs.Commands.{is_below_a}
-use Rattle.rules.proofs.Counters.{is-counter, no-counter}
 use Rattle.rules.proofs.commands.Laws.{fast-uncounted}
 use Rattle.monitor.proofs.record.Laws.{uncounted, not-counted, Decided, decide}
 use Rattle.monitor.proofs.record.Monitor.completion.Goals.{After-loads}
@@ -12,12 +11,12 @@ use Rattle.monitor.proofs.record.Monitor.completion.Goals as goal
 decided :
     (c : goal.After-loads) (load : Bool) →
     c.loads.result ≡ load →
-    Decided c.args.self c.args.c c.counter-counter.result c.milliseconds-ms.result c.logged-self.result
+    Decided c.args.self c.args.c c.in-Some.counter c.milliseconds-ms.result c.logged-self.result
     c.counted_at-counters.result
     c.triggers-debug.result
     load
 decided c load e =
-    decide _ _ _ _ _ _ _ _ (is-counter _ _ _ c.counter-counter.ensures c.if-counter-lt-NOT_COUNTED.true)
+    decide _ _ _ _ _ _ _ _ (sym c.in-Some.ensures.counter)
     c.milliseconds-ms.ensures
     c.triggers-debug.ensures
     c.logged-self.ensures
@@ -44,8 +43,8 @@ returns-else-loads c =
     let d = decided (goal.at.returns-else-loads c).After-loads false c.if-loads.false in
     record { next = rw c.of-self-else-loads.ensures d.next; answer = d.answer; below_a = not-below (goal.at.returns-else-loads c).After-loads }
 
-pub returns-else-counter-lt-NOT_COUNTED : goal.returns-else-counter-lt-NOT_COUNTED
-returns-else-counter-lt-NOT_COUNTED c =
+pub returns-in_default : goal.returns-in_default
+returns-in_default c =
     let not-below = sym c.if-is_below_a.false ∙ c.is_below_a.ensures in
-    let u = not-counted _ _ (no-counter _ _ _ c.counter-counter.ensures c.if-counter-lt-NOT_COUNTED.false) (sym not-below) in
+    let u = not-counted _ _ (sym c.in_default.ensures.counter) (sym not-below) in
     record { next = u.0; answer = u.1; below_a = not-below }
