@@ -1,10 +1,14 @@
 // An event file in blocks, as the page program takes it, with the lines of what is refused.
 use crate::compare::Comparison;
+use arrayvec::ArrayString;
 use monitor::Monitor;
 use records::RECORD;
+use text::LINE;
 
-// The records of a block: the lines of so many have room in a large buffer.
+// The records of a block, and the room for the lines of so many.
 const BLOCK: usize = 1024;
+
+const LINES: usize = LINE * BLOCK;
 
 // The monitor so far, and the lines that it has told, held against the expected ones.
 #[derive(Clone, Copy)]
@@ -23,10 +27,9 @@ fn part(file: &[u8], from: usize, to: usize) -> &[u8] {
 impl Told<'_> {
     // A block of records, whose first has this number.
     fn block(&mut self, s: &[u8], first: usize) {
-        let mut out = streams::large_buffer();
-        let b = events::replay_block(self.monitor, s, first as u64, &mut out);
-        self.monitor = b.monitor;
-        self.lines.take(&out[..b.len]);
+        let mut lines = ArrayString::<LINES>::new();
+        self.monitor = events::replay_block(self.monitor, s, first as u64, &mut lines);
+        self.lines.take(lines.as_bytes());
     }
 
     // The records of a file from one number up to another.
@@ -40,6 +43,6 @@ impl Told<'_> {
     // The end of a file of n bytes: what is left over.
     pub fn end(&mut self, n: usize) {
         let line = events::end_line((n / RECORD) as u64, n);
-        self.lines.take(&line.bytes[..line.len]);
+        self.lines.take(line.as_bytes());
     }
 }

@@ -62,10 +62,8 @@ pub fn list<'a, const WIDTH: usize, const EACH: usize>(
 
 // A refusal, and where it is 0 the bytes of the answer.
 pub fn expected<const N: usize>(source: &mut impl Read) -> Result<Expected<N>, Unread> {
-    let [refusal] = bytes::<1>(source)?;
-    if refusal == 0 {
-        Ok(Ok(bytes(source)?))
-    } else {
-        Ok(Err(refusal))
+    match bytes::<1>(source)? {
+        [0] => Ok(Ok(bytes(source)?)),
+        [number] => Ok(Err(number)),
     }
 }

@@ -1,7 +1,7 @@
 // A page vector: what is read as a page, the fields that it is read as, and its listing.
 use crate::compare::Comparison;
+use crate::input;
 use crate::input::Unread;
-use crate::{compare, input};
 use logpage::{DebugLog, LogPage, Reading, Settings, Window};
 use std::io::Read;
 
@@ -44,29 +44,26 @@ fn shows(r: Reading, expected: &[u8; FIELDS]) -> bool {
     fields.agrees()
 }
 
-// Whether a page is read as these fields, or refused by this number and read as those of a new monitor.
-fn reads_as(page: &[u8], refusal: u8, expected: &[u8; FIELDS]) -> bool {
-    let read = LogPage::read(page);
-    let answered = match compare::numbered(read.answer) {
-        Ok(()) => refusal == 0,
-        Err(number) => refusal == number,
-    };
-    answered && shows(read.reading, expected)
+// Whether a page is read as these fields, for 0, or refused by this number, where the fields are a new monitor's.
+fn reads_as(page: &[u8], number: u8, expected: &[u8; FIELDS]) -> bool {
+    match LogPage::read(page) {
+        Ok(reading) => number == 0 && shows(reading, expected),
+        Err(refusal) => number == u8::from(refusal) && shows(Reading::none(), expected),
+    }
 }
 
 // Whether a page is listed as this text.
 fn lists_as(page: &[u8], expected: &[u8]) -> bool {
-    let listing = text::page_listing(page);
-    &listing.bytes[..listing.len] == expected
+    text::page_listing(page).as_bytes() == expected
 }
 
 // The next page vector.
 pub fn next(source: &mut impl Read) -> Result<bool, Unread> {
     let mut page = [[0]; input::LONGEST_LIST];
     let page = input::list::<2, _>(source, &mut page)?.as_flattened();
-    let [refusal] = input::bytes::<1>(source)?;
+    let [number] = input::bytes::<1>(source)?;
     let expected = input::bytes(source)?;
     let mut lines = [[0]; 4096];
     let lines = input::list::<2, _>(source, &mut lines)?.as_flattened();
-    Ok(reads_as(page, refusal, &expected) && lists_as(page, lines))
+    Ok(reads_as(page, number, &expected) && lists_as(page, lines))
 }

@@ -4,7 +4,7 @@ use crate::blocks::Told;
 use crate::compare;
 use crate::compare::Comparison;
 use events::RecordAnswer;
-use monitor::{Answer, Monitor};
+use monitor::Monitor;
 use records::RECORD;
 
 // The bytes of a preset, and of an expected answer.
@@ -58,14 +58,6 @@ pub struct Played {
     pub agrees: bool,
 }
 
-// The answer at the end of a file of so many bytes.
-fn at_end(n: usize) -> RecordAnswer {
-    match events::left_over(n) {
-        Answer::Refused(number) => RecordAnswer::Refused(number),
-        Answer::Done => RecordAnswer::Done,
-    }
-}
-
 impl Events<'_> {
     // The whole file by blocks, in parts where presets stand between them.
     pub fn by_blocks(self, lines: &[u8]) -> Played {
@@ -108,7 +100,8 @@ impl Events<'_> {
             monitor = o.next;
             agrees &= expected.next() == Some(compare::coded(o.answer));
         }
-        agrees &= expected.next() == Some(compare::coded(at_end(self.file.len())));
+        let at_end = events::left_over(self.file.len()).map(|()| RecordAnswer::Done);
+        agrees &= expected.next() == Some(compare::coded(at_end));
         Played { monitor, agrees }
     }
 }

@@ -1,7 +1,7 @@
 // A reasons vector: an event file, and what is printed about its records, each by its number.
 use crate::input;
 use crate::input::Unread;
-use events::{Explained, Question};
+use events::{Question, Said};
 use std::io::Read;
 
 // The bytes of a question: how many bytes of the number are there, the number, the length of what is printed, and that.
@@ -11,10 +11,10 @@ const QUESTION: usize = 17;
 const BLOCK: usize = 65536;
 
 // What is said of a record, by a file in blocks; none is read after the one that says it.
-fn explained(file: &[u8], number: &[u8]) -> Explained {
+fn explained(file: &[u8], number: &[u8]) -> Option<Said> {
     let mut e = Question::new(number);
     for block in file.chunks(BLOCK) {
-        if !events::unread(e.said) {
+        if e.said.is_some() {
             break;
         }
         e = e.next.read(block);
@@ -25,7 +25,7 @@ fn explained(file: &[u8], number: &[u8]) -> Explained {
 // Whether this is printed about a record.
 fn prints(file: &[u8], number: &[u8], expected: &[u8]) -> bool {
     let line = events::explained_line(explained(file, number));
-    &line.bytes[..line.len] == expected
+    line.as_bytes() == expected
 }
 
 // Whether a question has the expected answer.

@@ -4,7 +4,7 @@ ghost use Rattle.std.specs.Prelude.{◌<◌, ◌^◌};
 use crate::input::{Expected, Unread};
 use crate::play::Events;
 use crate::{compare, input, pages, play, reasons};
-use monitor::{Monitor, WindowChoice};
+use monitor::{Monitor, Refusal, WindowChoice};
 use std::io::Read;
 
 // The bytes of a patch: a place, and what is put there.
@@ -35,7 +35,7 @@ impl From<&[u8]> for Kind {
 }
 
 // Whether a call of either monitor does as expected with the buffer of the vector.
-fn fills<const N: usize, F: Fn(Monitor, &mut [u8]) -> Result<(), u8>>(
+fn fills<const N: usize, F: Fn(Monitor, &mut [u8]) -> Result<(), Refusal>>(
     source: &mut impl Read,
     monitors: &[Monitor; 2],
     call: F,
@@ -82,10 +82,8 @@ fn events(source: &mut impl Read) -> Result<bool, Unread> {
     let by_records = played.by_records(answers);
     let by_blocks = played.by_blocks(lines.as_flattened());
     let monitors = [by_records.monitor, by_blocks.monitor];
-    let page = fills::<512, _>(source, &monitors, |m, s| compare::numbered(m.page(s)))?;
-    let back = fills::<13, _>(source, &monitors, |m, s| {
-        compare::numbered(m.settings_back(s))
-    })?;
+    let page = fills::<512, _>(source, &monitors, |m, s| m.page(s))?;
+    let back = fills::<13, _>(source, &monitors, |m, s| m.settings_back(s))?;
     let active = below_a(source, &monitors, WindowChoice::Active)?;
     let last = below_a(source, &monitors, WindowChoice::Static)?;
     Ok(by_records.agrees && by_blocks.agrees && page && back && active && last)
@@ -105,13 +103,9 @@ fn patch(s: &mut [u8], patches: &[[u8; PATCH]]) -> bool {
 // Whether settings that are given to a new monitor are refused as expected, or given back by it.
 fn configures(s: &[u8], expected: &Expected<13>) -> bool {
     let o = Monitor::new().configure(s);
-    match compare::numbered(o.answer) {
-        Err(number) => *expected == Err(number),
-        Ok(()) => compare::fills(
-            |s| compare::numbered(o.next.settings_back(s)),
-            4096,
-            expected,
-        ),
+    match o.answer {
+        Ok(()) => compare::fills(|s| o.next.settings_back(s), 4096, expected),
+        Err(refusal) => *expected == Err(u8::from(refusal)),
     }
 }
 
