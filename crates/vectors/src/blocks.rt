@@ -1,92 +1,48 @@
 // An event file in blocks, as the page program takes it, with the lines of what is refused.
-ghost use Rattle.std.specs.Prelude.{◌<◌, ◌≤◌};
-
-use crate::compare;
+use crate::compare::Comparison;
+use arrayvec::ArrayString;
 use monitor::Monitor;
+use records::RECORD;
+use text::LINE;
 
-// The bytes of a record.
-pub const RECORD: usize = 16;
-
-// The records of a block: the lines of so many have room in a large buffer.
+// The records of a block, and the room for the lines of so many.
 const BLOCK: usize = 1024;
 
-// The monitor so far, how many bytes of the expected lines it has told, and whether it told no others.
+const LINES: usize = LINE * BLOCK;
+
+// The monitor so far, and the lines that it has told, held against the expected ones.
 #[derive(Clone, Copy)]
-pub struct Told {
+pub struct Told<'a> {
     pub monitor: Monitor,
-    pub met: usize,
-    pub agrees: bool,
-}
-
-// Lines that were told, held against the next expected ones.
-fn met(mut t: Told, s: &[u8], expected: &[u8]) -> Told {
-    let from = t.met;
-    if from <= expected.len() {
-        if s.len() <= expected.len() - from {
-            let end = from + s.len();
-            if compare::holds(&expected[from..end], s, 0) {
-                t.met = end;
-                return t;
-            }
-        }
-    }
-    t.agrees = false;
-    t
-}
-
-// A block of records, whose first has this number.
-fn block(t: Told, s: &[u8], first: usize, expected: &[u8]) -> Told {
-    let mut out = streams::large_buffer();
-    let m = t.monitor;
-    let b = events::replay_block(m, s, first as u64, &mut out);
-    let monitor = b.monitor;
-    let len = b.len;
-    let next = Told {
-        monitor,
-        met: t.met,
-        agrees: t.agrees,
-    };
-    met(next, &out[..len], expected)
-}
-
-// Where a block of at most this size ends, which begins at i and goes no further than another place.
-pub(crate) fn block_end(i: usize, to: usize, size: usize) -> usize
-    requires { (i < to) × (0 < size) }
-    ensures { (i < result) × (result ≤ to) }
-{
-    if to - i < size { to } else { i + size }
+    pub lines: Comparison<'a>,
 }
 
 // The records of a file from one number up to another; none, where the file has not so many.
-pub fn part(file: &[u8], from: usize, to: usize) -> &[u8] {
-    if file.len() / RECORD < to {
-        &file[0..0]
-    } else if to < from {
-        &file[0..0]
-    } else {
-        &file[RECORD * from..RECORD * to]
-    }
+fn part(file: &[u8], from: usize, to: usize) -> &[u8] {
+    let from = from.saturating_mul(RECORD);
+    let to = to.saturating_mul(RECORD);
+    file.get(from..to).unwrap_or(&[])
 }
 
-// The records of a file from one number up to another.
-pub fn records(mut t: Told, file: &[u8], from: usize, to: usize, expected: &[u8]) -> Told {
-    let mut i = from;
-    while i < to {
-        let end = block_end(i, to, BLOCK);
-        t = block(t, part(file, i, end), i, expected);
-        i = end;
+impl Told<'_> {
+    // A block of records, whose first has this number.
+    fn block(&mut self, s: &[u8], first: usize) {
+        let mut lines = ArrayString::<LINES>::new();
+        self.monitor = events::replay_block(self.monitor, s, first as u64, &mut lines);
+        self.lines.take(lines.as_bytes());
     }
-    t
-}
 
-// The end of a file of n bytes: what is left over, and no line missing.
-pub fn end(t: Told, n: usize, expected: &[u8]) -> Told {
-    let line = events::end_line((n / 16) as u64, n);
-    let bytes = line.bytes;
-    let len = line.len;
-    let mut last = met(t, &bytes[..len], expected);
-    if last.met != expected.len() {
-        last.agrees = false;
+    // The records of a file from one number up to another.
+    pub fn records(&mut self, file: &[u8], from: usize, to: usize) {
+        for i in (from..to).step_by(BLOCK) {
+            let end = to.min(i.saturating_add(BLOCK));
+            self.block(part(file, i, end), i);
+        }
     }
-    last
+
+    // The end of a file of n bytes: what is left over.
+    pub fn end(&mut self, n: usize) {
+        let line = events::end_line((n / RECORD) as u64, n);
+        self.lines.take(line.as_bytes());
+    }
 }

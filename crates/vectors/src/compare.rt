@@ -1,8 +1,7 @@
 // The product's answers, and what it leaves in lent buffers, held against what is expected.
-ghost use Rattle.std.specs.Prelude.{◌≡◌, ◌≤◌, length};
-
+use crate::input::Expected;
 use events::RecordAnswer;
-use monitor::{Answer, Monitor, WindowChoice};
+use monitor::{Monitor, Refusal, WindowChoice};
 
 // What every byte of a buffer holds when it is lent. It is not zero, so that a byte left unwritten is seen.
 const LENT: u8 = 165;
@@ -10,110 +9,70 @@ const LENT: u8 = 165;
 // The longest buffer that a vector lends.
 pub const LONGEST: usize = 4200;
 
-// A window's counts below A, and their bytes.
-const BELOW_A_WIDTHS: [usize; 3] = [4, 4, 4];
-
-pub const BELOW_A_BYTES: usize = 12;
-
-// A bit of a number, if it is set.
-fn bit(set: bool, value: u32) -> u32
-    ensures { result ≤ value }
-{
-    if set { value } else { 0 }
-}
-
 // A record's answer as a number: reference/src/vectors.rs has the table.
-pub fn coded(a: RecordAnswer) -> u32 {
-    match a {
-        RecordAnswer::Refused(number) => 8 * (number as u32),
-        RecordAnswer::Done => 1,
-        RecordAnswer::NotCounted => 2,
-        RecordAnswer::Counted {
-            counter,
-            loaded,
-            debug,
-        } => 3 + bit(loaded, 8) + bit(debug, 16) + 32 * (counter as u32),
-        RecordAnswer::Ended(ended) => 4 + bit(ended, 1),
-    }
-}
-
-// A buffer to lend from.
-fn lent() -> [u8; LONGEST]
-    ensures { 4200 ≡ length result }
-{
-    [LENT; LONGEST]
-}
-
-// Whether a buffer starts with these bytes, and every other byte of it is `rest`.
-pub fn holds(s: &[u8], bytes: &[u8], rest: u8) -> bool {
-    let mut i = 0;
-    while i < s.len() {
-        let expected = if i < bytes.len() { bytes[i] } else { rest };
-        if s[i] != expected {
-            return false;
-        }
-        i += 1;
-    }
-    bytes.len() <= s.len()
-}
-
-// Whether a call on a buffer was refused by this number and left the buffer, or for 0 put these bytes into it.
-fn agrees(answer: Answer, s: &[u8], refusal: usize, bytes: &[u8]) -> bool {
+pub fn coded(answer: Result<RecordAnswer, Refusal>) -> u32 {
     match answer {
-        Answer::Refused(number) => {
-            if number as usize == refusal {
-                holds(s, &bytes[0..0], LENT)
-            } else {
-                false
-            }
-        }
-        Answer::Done => {
-            if refusal == 0 {
-                holds(s, bytes, 0)
-            } else {
-                false
-            }
-        }
+        Err(refusal) => 8 * u32::from(u8::from(refusal)),
+        Ok(RecordAnswer::Done) => 1,
+        Ok(RecordAnswer::NotCounted) => 2,
+        Ok(
+            RecordAnswer::Counted {
+                counter,
+                loaded,
+                debug,
+            },
+        ) => 3 + 8 * u32::from(loaded) + 16 * u32::from(debug) + 32 * u32::from(counter),
+        Ok(RecordAnswer::Ended(ended)) => 4 + u32::from(ended),
     }
 }
 
-// The page, into a buffer.
-fn page_in(m: Monitor, s: &mut [u8], refusal: usize, bytes: &[u8]) -> bool {
-    let answer = m.page(s);
-    agrees(answer, s, refusal, bytes)
-}
-
-// The settings given back, into a buffer.
-fn settings_in(m: Monitor, s: &mut [u8], refusal: usize, bytes: &[u8]) -> bool {
-    let answer = m.settings_back(s);
-    agrees(answer, s, refusal, bytes)
-}
-
-// The page, into a buffer of this length.
-pub fn page(m: Monitor, n: usize, refusal: usize, bytes: &[u8]) -> bool {
-    let mut buffer = lent();
-    if n <= LONGEST {
-        page_in(m, &mut buffer[0..n], refusal, bytes)
-    } else {
-        false
+// Whether a call refused a lent buffer as expected and left it, or put the expected bytes into it, and zeros behind.
+fn agrees<const N: usize>(answer: Result<(), Refusal>, s: &[u8], expected: &Expected<N>) -> bool {
+    match (answer, expected) {
+        (Ok(()), Ok(bytes)) => s
+            .strip_prefix(bytes)
+            .is_some_and(|rest| rest.iter().all(|b| *b == 0)),
+        (Err(refusal), Err(number)) => u8::from(refusal) == *number && s.iter().all(|b| *b == LENT),
+        _ => false,
     }
 }
 
-// The settings given back, into a buffer of this length.
-pub fn settings_back(m: Monitor, n: usize, refusal: usize, bytes: &[u8]) -> bool {
-    let mut buffer = lent();
-    if n <= LONGEST {
-        settings_in(m, &mut buffer[0..n], refusal, bytes)
-    } else {
-        false
+// Whether a call does as expected with a buffer of this length.
+pub fn fills<const N: usize, F: FnOnce(&mut [u8]) -> Result<(), Refusal>>(
+    call: F,
+    n: usize,
+    expected: &Expected<N>,
+) -> bool
+    requires { F.IsAlwaysCallable call }
+{
+    let mut buffer = [LENT; LONGEST];
+    match buffer.get_mut(..n) {
+        Some(s) => agrees(call(s), s, expected),
+        None => false,
     }
 }
 
-// A window's counts below A.
-pub fn below_a(m: Monitor, window: WindowChoice, expected: &[u8]) -> bool {
-    let counts = m.below_a(window);
-    let values = [counts[0] as u64, counts[1] as u64, counts[2] as u64];
-    let mut bytes = [0; BELOW_A_BYTES];
-    endian::put_fields(&mut bytes, &BELOW_A_WIDTHS, &values);
-    holds(&bytes, expected, 0)
+// Expected bytes, held against what comes part by part: those still to come; none, once others came.
+#[derive(Clone, Copy)]
+pub struct Comparison<'a>(Option<&'a [u8]>);
+
+impl<'a> Comparison<'a> {
+    pub fn new(expected: &'a [u8]) -> Self {
+        Comparison(Some(expected))
+    }
+
+    // The next part comes.
+    pub fn take(&mut self, part: &[u8]) {
+        self.0 = self.0.and_then(|rest| rest.strip_prefix(part));
+    }
+
+    // Whether all expected bytes came, and no others.
+    pub fn agrees(&self) -> bool {
+        self.0.is_some_and(|rest| rest.is_empty())
+    }
+}
+
+// Whether a window has these counts below A.
+pub fn below_a(m: Monitor, window: WindowChoice, expected: &[u8; 12]) -> bool {
+    m.below_a(window).map(u32::to_le_bytes).as_flattened() == expected.as_slice()
 }

@@ -1,81 +1,69 @@
 // The file of vectors, read from standard input part by part. reference/src/vectors.rs describes it.
-ghost use Rattle.std.specs.Prelude.{◌≡◌, ◌≤◌, ◌<◌, length};
+ghost use Rattle.std.specs.Prelude.{◌≤◌};
 
+use std::error::Error;
 use std::io::Read;
+use std::{fmt, io};
 
-// The longest event file of a vector.
-const LONGEST_FILE: usize = 131072;
+// The bytes of the longest event file of a vector, and of any other list.
+pub const LONGEST_FILE: usize = 131_072;
 
-// What a part of the file said; nothing, where the input ended before it or it does not fit.
-#[derive(Clone, Copy)]
-pub enum Part {
-    Read(usize),
-    Missing,
-}
+pub const LONGEST_LIST: usize = 65_536;
 
-// A buffer for an event file.
-pub fn file_buffer() -> [u8; LONGEST_FILE]
-    ensures { 131072 ≡ length result }
-{
-    [0; LONGEST_FILE]
-}
+// The input ended before a part of the file did, or the part does not fit.
+#[derive(Clone, Copy, Debug)]
+pub struct Unread;
 
-// Fills a buffer, and says whether the input had so many bytes.
-pub fn fill<R: Read>(source: &mut R, s: &mut [u8]) -> bool {
-    streams::fill(source, s).n == s.len()
-}
-
-// The number that fills a buffer.
-fn number_in<R: Read>(source: &mut R, s: &mut [u8]) -> Part {
-    if fill(source, s) {
-        Part::Read(endian::load(s) as usize)
-    } else {
-        Part::Missing
+impl fmt::Display for Unread {
+    fn fmt<W: fmt::Write>(&self, f: &mut fmt::Formatter<W>) -> fmt::Result {
+        write!(f, "the file ended early, or is not one of vectors")
     }
+}
+
+impl Error for Unread {}
+
+impl From<io::Error> for Unread {
+    fn from(_e: io::Error) -> Unread {
+        Unread
+    }
+}
+
+// What a call is expected to answer: bytes, or the number that it is refused by.
+pub type Expected<const N: usize> = Result<[u8; N], u8>;
+
+// The next bytes.
+pub fn bytes<const N: usize>(source: &mut impl Read) -> Result<[u8; N], Unread> {
+    let mut bytes = [0; N];
+    source.read_exact(&mut bytes)?;
+    Ok(bytes)
 }
 
 // A number of so many bytes.
-pub(crate) fn number<R: Read>(source: &mut R, width: usize) -> Part
-    requires { width ≤ 4 }
+pub fn number<const WIDTH: usize>(source: &mut impl Read) -> Result<usize, Unread>
+    requires { WIDTH ≤ 8 }
 {
-    let mut bytes = [0; 4];
-    number_in(source, &mut bytes[0..width])
+    let mut bytes = [0; 8];
+    source.read_exact(&mut bytes[..WIDTH])?;
+    Ok(usize::from_le_bytes(bytes))
 }
 
-// A list, into the start of a buffer: its count, and then so many elements. Gives the bytes of the elements.
-pub(crate) fn list<R: Read>(source: &mut R, width: usize, each: usize, s: &mut [u8]) -> Part
-    requires { (width ≤ 4) × (0 < each) }
+// A list, into the start of a buffer: a number of so many bytes, and then so many elements.
+pub fn list<'a, const WIDTH: usize, const EACH: usize>(
+    source: &mut impl Read,
+    buffer: &'a mut [[u8; EACH]],
+) -> Result<&'a [[u8; EACH]], Unread>
+    requires { WIDTH ≤ 8 }
 {
-    let Part::Read(count) = number(source, width) else {
-        return Part::Missing;
-    };
-    if s.len() / each < count {
-        return Part::Missing;
-    }
-    let n = count * each;
-    if fill(source, &mut s[0..n]) {
-        Part::Read(n)
-    } else {
-        Part::Missing
-    }
-}
-
-// The first n bytes, or all where there are fewer.
-pub fn first(s: &[u8], n: usize) -> &[u8] {
-    if n <= s.len() { &s[0..n] } else { s }
+    let count = number::<WIDTH>(source)?;
+    let list = buffer.get_mut(..count).ok_or(Unread)?;
+    source.read_exact(list.as_flattened_mut())?;
+    Ok(list)
 }
 
 // A refusal, and where it is 0 the bytes of the answer.
-pub fn answer<R: Read>(source: &mut R, s: &mut [u8]) -> Part {
-    let Part::Read(refusal) = number(source, 1) else {
-        return Part::Missing;
-    };
-    if refusal != 0 {
-        return Part::Read(refusal);
-    }
-    if fill(source, s) {
-        Part::Read(0)
-    } else {
-        Part::Missing
+pub fn expected<const N: usize>(source: &mut impl Read) -> Result<Expected<N>, Unread> {
+    match bytes::<1>(source)? {
+        [0] => Ok(Ok(bytes(source)?)),
+        [number] => Ok(Err(number)),
     }
 }

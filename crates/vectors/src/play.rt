@@ -1,118 +1,107 @@
 // An event file, played on a new monitor in two ways: block by block, and record by record. The lines of the one and
 // the answers of the other are held against the expected ones.
-ghost use Rattle.std.specs.Prelude.{◌≡◌, length};
-
-use crate::blocks::{RECORD, Told};
-use crate::{blocks, compare};
+use crate::blocks::Told;
+use crate::compare;
+use crate::compare::Comparison;
 use events::RecordAnswer;
-use monitor::{Answer, Monitor};
+use monitor::Monitor;
+use records::RECORD;
 
 // The bytes of a preset, and of an expected answer.
-const PRESET: usize = 9;
+pub const PRESET: usize = 9;
 
-const ANSWER: usize = 2;
+pub const ANSWER: usize = 2;
 
+// A preset: just before a record is read, a counter of the active window is set to a value. 12 to 14 are the counts
+// below A.
+#[derive(Clone, Copy)]
+struct Preset {
+    counter: usize,
+    value: u32,
+    before: usize,
+}
+
+impl From<&[u8; PRESET]> for Preset {
+    fn from(bytes: &[u8; PRESET]) -> Preset {
+        let [counter, v0, v1, v2, v3, b0, b1, b2, b3] = *bytes;
+        Preset {
+            counter: usize::from(counter),
+            value: u32::from_le_bytes([v0, v1, v2, v3]),
+            before: u32::from_le_bytes([b0, b1, b2, b3]) as usize,
+        }
+    }
+}
+
+impl Preset {
+    // The monitor with the counter set.
+    fn set(self, mut m: Monitor) -> Monitor {
+        if let Some(count) = m.active_window.counters.get_mut(self.counter) {
+            *count = self.value;
+        } else if let Some(count) = m.active_below_a.get_mut(self.counter - 12) {
+            *count = self.value;
+        }
+        m
+    }
+}
+
+// An event file, and its presets.
+#[derive(Clone, Copy)]
+pub struct Events<'a> {
+    pub file: &'a [u8],
+    pub presets: &'a [[u8; PRESET]],
+}
+
+// What a file leaves of a new monitor, and whether it was told or answered what was expected.
 #[derive(Clone, Copy)]
 pub struct Played {
     pub monitor: Monitor,
-    // Whether each answer was the expected one.
     pub agrees: bool,
 }
 
-// The number that four bytes make.
-fn number(s: &[u8]) -> u32 {
-    (endian::load(s) % 4_294_967_296) as u32
-}
-
-// A preset: a counter of the active window set to a value. 12 to 14 are the counts below A.
-fn preset(mut m: Monitor, s: &[u8]) -> Monitor
-    requires { length s.now ≡ 9 }
-{
-    let counter = number(&s[0..1]) as usize;
-    let value = number(&s[1..5]);
-    if counter < 12 {
-        let mut w = m.active_window;
-        w.counters[counter] = value;
-        m.active_window = w;
-    } else if counter < 15 {
-        let mut below = m.active_below_a;
-        below[counter - 12] = value;
-        m.active_below_a = below;
-    }
-    m
-}
-
-// The presets that stand before a record.
-fn with_presets(mut m: Monitor, presets: &[u8], record: usize) -> Monitor {
-    let mut k = 0;
-    while k < presets.len() / PRESET {
-        let at = PRESET * k;
-        let s = &presets[at..at + PRESET];
-        if number(&s[5..9]) as usize == record {
-            m = preset(m, s);
+impl Events<'_> {
+    // The whole file by blocks, in parts where presets stand between them.
+    pub fn by_blocks(self, lines: &[u8]) -> Played {
+        let mut told = Told {
+            monitor: Monitor::new(),
+            lines: Comparison::new(lines),
+        };
+        let mut from = 0;
+        for preset in self.presets.iter().map(Preset::from) {
+            told.records(self.file, from, preset.before);
+            told.monitor = preset.set(told.monitor);
+            from = preset.before;
         }
-        k += 1;
-    }
-    m
-}
-
-// The whole file by blocks, in parts where presets stand between them.
-pub fn replayed(file: &[u8], presets: &[u8], lines: &[u8]) -> Told {
-    let monitor = Monitor::new();
-    let mut t = Told {
-        monitor,
-        met: 0,
-        agrees: true,
-    };
-    let mut from = 0;
-    let mut k = 0;
-    while k < presets.len() / PRESET {
-        let at = PRESET * k;
-        let s = &presets[at..at + PRESET];
-        let to = number(&s[5..9]) as usize;
-        t = blocks::records(t, file, from, to, lines);
-        let m = preset(t.monitor, s);
-        t.monitor = m;
-        from = to;
-        k += 1;
-    }
-    let last = blocks::records(t, file, from, file.len() / RECORD, lines);
-    blocks::end(last, file.len(), lines)
-}
-
-// The answer at the end of a file of so many bytes.
-fn at_end(n: usize) -> RecordAnswer {
-    match events::left_over(n) {
-        Answer::Refused(number) => RecordAnswer::Refused(number),
-        Answer::Done => RecordAnswer::Done,
-    }
-}
-
-// Whether an answer is the expected one with this number.
-fn is_expected(a: RecordAnswer, answers: &[u8], i: usize) -> bool {
-    if i < answers.len() / ANSWER {
-        let at = ANSWER * i;
-        compare::coded(a) == endian::word(answers[at], answers[at + 1]) as u32
-    } else {
-        false
-    }
-}
-
-// The records one by one, and the end of the file.
-pub fn answered(file: &[u8], presets: &[u8], answers: &[u8]) -> Played {
-    let whole = file.len() / RECORD;
-    let mut monitor = Monitor::new();
-    let mut agrees = is_expected(at_end(file.len()), answers, whole);
-    let mut i = 0;
-    while i < whole {
-        let m = with_presets(monitor, presets, i);
-        let o = events::apply(m, blocks::part(file, i, i + 1));
-        monitor = o.next;
-        let answer = o.answer;
-        if !is_expected(answer, answers, i) {
-            agrees = false;
+        told.records(self.file, from, self.file.len() / RECORD);
+        told.end(self.file.len());
+        Played {
+            monitor: told.monitor,
+            agrees: told.lines.agrees(),
         }
-        i += 1;
     }
-    Played { monitor, agrees }
+
+    // The monitor with the presets that stand before a record.
+    fn before(self, m: Monitor, i: usize) -> Monitor {
+        self.presets
+            .iter()
+            .map(Preset::from)
+            .filter(|preset| preset.before == i)
+            .fold(m, |m, preset| preset.set(m))
+    }
+
+    // The records one by one, and the end of the file.
+    pub fn by_records(self, answers: &[[u8; ANSWER]]) -> Played {
+        let mut expected = answers
+            .iter()
+            .map(|code| u32::from(u16::from_le_bytes(*code)));
+        let mut monitor = Monitor::new();
+        let mut agrees = true;
+        for (i, record) in self.file.chunks_exact(RECORD).enumerate() {
+            let o = events::apply(self.before(monitor, i), record);
+            monitor = o.next;
+            agrees &= expected.next() == Some(compare::coded(o.answer));
+        }
+        let at_end = events::left_over(self.file.len()).map(|()| RecordAnswer::Done);
+        agrees &= expected.next() == Some(compare::coded(at_end));
+        Played { monitor, agrees }
+    }
 }

@@ -1,10 +1,14 @@
 // One vector of the file: its call, event file, questions or page given to the product, and the answers compared.
-use crate::blocks::Told;
-use crate::input::Part;
-use crate::verdicts::Verdict;
-use crate::{compare, input, pages, play, reasons, verdicts};
-use monitor::{Answer, Monitor, WindowChoice};
+ghost use Rattle.std.specs.Prelude.{◌<◌, ◌^◌};
+
+use crate::input::{Expected, Unread};
+use crate::play::Events;
+use crate::{compare, input, pages, play, reasons};
+use monitor::{Monitor, Refusal, WindowChoice};
 use std::io::Read;
+
+// The bytes of a patch: a place, and what is put there.
+const PATCH: usize = 3;
 
 // What a vector is of.
 #[derive(Clone, Copy)]
@@ -15,141 +19,111 @@ pub enum Kind {
     Reasons,
 }
 
-// The page that both monitors show, into the buffer of the vector.
-fn page<R: Read>(source: &mut R, m: Monitor, single: Monitor) -> Verdict {
-    let Part::Read(n) = input::number(source, 2) else {
-        return Verdict::Unread;
-    };
-    let mut bytes = [0; 512];
-    let Part::Read(refusal) = input::answer(source, &mut bytes) else {
-        return Verdict::Unread;
-    };
-    let as_a_whole = verdicts::judged(compare::page(m, n, refusal, &bytes));
-    let by_records = verdicts::judged(compare::page(single, n, refusal, &bytes));
-    verdicts::both(as_a_whole, by_records)
-}
-
-// The settings that both monitors give back, into the buffer of the vector.
-fn settings_back<R: Read>(source: &mut R, m: Monitor, single: Monitor) -> Verdict {
-    let Part::Read(n) = input::number(source, 2) else {
-        return Verdict::Unread;
-    };
-    let mut bytes = [0; 13];
-    let Part::Read(refusal) = input::answer(source, &mut bytes) else {
-        return Verdict::Unread;
-    };
-    let as_a_whole = verdicts::judged(compare::settings_back(m, n, refusal, &bytes));
-    let by_records = verdicts::judged(compare::settings_back(single, n, refusal, &bytes));
-    verdicts::both(as_a_whole, by_records)
-}
-
-// A window's counts below A, in both monitors.
-fn below_a<R: Read>(source: &mut R, m: Monitor, single: Monitor, window: WindowChoice) -> Verdict {
-    let mut bytes = [0; compare::BELOW_A_BYTES];
-    if !input::fill(source, &mut bytes) {
-        return Verdict::Unread;
+impl From<&[u8]> for Kind {
+    // What the vectors of a group are of: its name says so.
+    fn from(name: &[u8]) -> Kind {
+        if name.starts_with(b"settings") {
+            Kind::Settings
+        } else if name.starts_with(b"pages") {
+            Kind::Pages
+        } else if name.starts_with(b"reasons") {
+            Kind::Reasons
+        } else {
+            Kind::Events
+        }
     }
-    let as_a_whole = verdicts::judged(compare::below_a(m, window, &bytes));
-    let by_records = verdicts::judged(compare::below_a(single, window, &bytes));
-    verdicts::both(as_a_whole, by_records)
 }
 
-// An event file by blocks, and the lines that are expected of it; no lines agree where they cannot be read.
-fn by_blocks<R: Read>(source: &mut R, file: &[u8], presets: &[u8]) -> Told {
-    let mut lines = streams::large_buffer();
-    let Part::Read(n) = input::list(source, 4, 1, &mut lines) else {
-        return play::replayed(file, presets, b"?");
-    };
-    play::replayed(file, presets, input::first(&lines, n))
+// Whether a call of either monitor does as expected with the buffer of the vector.
+fn fills<const N: usize, F: Fn(Monitor, &mut [u8]) -> Result<(), Refusal>>(
+    source: &mut impl Read,
+    monitors: &[Monitor; 2],
+    call: F,
+) -> Result<bool, Unread>
+    requires fits { N < 2 ^ 63 }
+    requires callable { F.IsAlwaysCallable call }
+{
+    let n = input::number::<2>(source)?;
+    let expected = input::expected::<N>(source)?;
+    let mut agrees = true;
+    for m in monitors {
+        agrees &= compare::fills(|s| call(*m, s), n, &expected);
+    }
+    Ok(agrees)
+}
+
+// Whether a window of either monitor has the counts below A of the vector.
+fn below_a(
+    source: &mut impl Read,
+    monitors: &[Monitor; 2],
+    window: WindowChoice,
+) -> Result<bool, Unread> {
+    let expected = input::bytes(source)?;
+    Ok(
+        monitors
+            .iter()
+            .all(|m| compare::below_a(*m, window, &expected)),
+    )
 }
 
 // An event vector.
-fn events<R: Read>(source: &mut R) -> Verdict {
-    let mut file = input::file_buffer();
-    let Part::Read(bytes) = input::list(source, 4, 1, &mut file) else {
-        return Verdict::Unread;
+fn events(source: &mut impl Read) -> Result<bool, Unread> {
+    let mut file = [[0]; input::LONGEST_FILE];
+    let mut presets = [[0; play::PRESET]; 255];
+    let mut answers = [[0; play::ANSWER]; input::LONGEST_LIST / play::ANSWER];
+    let mut lines = [[0]; input::LONGEST_LIST];
+    let played = Events {
+        file: input::list::<4, _>(source, &mut file)?.as_flattened(),
+        presets: input::list::<1, _>(source, &mut presets)?,
     };
-    let mut presets = streams::buffer();
-    let Part::Read(preset_bytes) = input::list(source, 1, 9, &mut presets) else {
-        return Verdict::Unread;
-    };
-    let mut answers = streams::large_buffer();
-    let Part::Read(answer_bytes) = input::list(source, 2, 2, &mut answers) else {
-        return Verdict::Unread;
-    };
-    let records = input::first(&file, bytes);
-    let before = input::first(&presets, preset_bytes);
-    let a = play::answered(records, before, input::first(&answers, answer_bytes));
-    let t = by_blocks(source, records, before);
-    let m = t.monitor;
-    let single = a.monitor;
-    let shown = page(source, m, single);
-    let given = settings_back(source, m, single);
-    let active = below_a(source, m, single, WindowChoice::Active);
-    let last = below_a(source, m, single, WindowChoice::Static);
-    let read = verdicts::both(verdicts::both(shown, given), verdicts::both(active, last));
-    verdicts::both(verdicts::judged(t.agrees & a.agrees), read)
+    let answers = input::list::<2, _>(source, &mut answers)?;
+    // No monitor tells the line that stands for lines that do not fit.
+    let lines = input::list::<4, _>(source, &mut lines).unwrap_or(&[[b'?']]);
+    let by_records = played.by_records(answers);
+    let by_blocks = played.by_blocks(lines.as_flattened());
+    let monitors = [by_records.monitor, by_blocks.monitor];
+    let page = fills::<512, _>(source, &monitors, |m, s| m.page(s))?;
+    let back = fills::<13, _>(source, &monitors, |m, s| m.settings_back(s))?;
+    let active = below_a(source, &monitors, WindowChoice::Active)?;
+    let last = below_a(source, &monitors, WindowChoice::Static)?;
+    Ok(by_records.agrees && by_blocks.agrees && page && back && active && last)
 }
 
 // Puts bytes into settings, each at its place. Whether all places were there.
-fn patch(s: &mut [u8], patches: &[u8]) -> bool {
-    let mut k = 0;
-    while k < patches.len() / 3 {
-        let at = 3 * k;
-        let place = endian::word(patches[at], patches[at + 1]) as usize;
-        if s.len() <= place {
-            return false;
+fn patch(s: &mut [u8], patches: &[[u8; PATCH]]) -> bool {
+    for [low, high, byte] in patches {
+        match s.get_mut(usize::from(u16::from_le_bytes([*low, *high]))) {
+            Some(place) => *place = *byte,
+            None => return false,
         }
-        s[place] = patches[at + 2];
-        k += 1;
     }
     true
 }
 
-// Settings given to a new monitor, and given back by it.
-fn configure(s: &[u8], refusal: usize, bytes: &[u8]) -> bool {
+// Whether settings that are given to a new monitor are refused as expected, or given back by it.
+fn configures(s: &[u8], expected: &Expected<13>) -> bool {
     let o = Monitor::new().configure(s);
-    let m = o.next;
-    let answer = o.answer;
-    match answer {
-        Answer::Refused(number) => number as usize == refusal,
-        Answer::Done => compare::settings_back(m, 4096, refusal, bytes),
+    match o.answer {
+        Ok(()) => compare::fills(|s| o.next.settings_back(s), 4096, expected),
+        Err(refusal) => *expected == Err(u8::from(refusal)),
     }
 }
 
-// The same of settings that are zero but for the patches.
-fn configure_patched(s: &mut [u8], patches: &[u8], refusal: usize, bytes: &[u8]) -> bool {
-    if patch(s, patches) {
-        configure(s, refusal, bytes)
-    } else {
-        false
-    }
+// A settings vector: settings that are zero but for the patches.
+fn settings(source: &mut impl Read) -> Result<bool, Unread> {
+    let n = input::number::<2>(source)?;
+    let mut patches = [[0; PATCH]; 255];
+    let patches = input::list::<1, _>(source, &mut patches)?;
+    let expected = input::expected(source)?;
+    let mut s = [0; compare::LONGEST];
+    Ok(match s.get_mut(..n) {
+        Some(s) => patch(s, patches) && configures(s, &expected),
+        None => false,
+    })
 }
 
-// A settings vector.
-fn settings<R: Read>(source: &mut R) -> Verdict {
-    let Part::Read(n) = input::number(source, 2) else {
-        return Verdict::Unread;
-    };
-    let mut patches = streams::buffer();
-    let Part::Read(patch_bytes) = input::list(source, 1, 3, &mut patches) else {
-        return Verdict::Unread;
-    };
-    let mut bytes = [0; 13];
-    let Part::Read(refusal) = input::answer(source, &mut bytes) else {
-        return Verdict::Unread;
-    };
-    let mut s = streams::large_buffer();
-    if n <= compare::LONGEST {
-        let given = input::first(&patches, patch_bytes);
-        verdicts::judged(configure_patched(&mut s[0..n], given, refusal, &bytes))
-    } else {
-        Verdict::Differs
-    }
-}
-
-// The next vector.
-pub fn next<R: Read>(source: &mut R, kind: Kind) -> Verdict {
+// Whether the next vector agrees.
+pub fn next(source: &mut impl Read, kind: Kind) -> Result<bool, Unread> {
     match kind {
         Kind::Events => events(source),
         Kind::Settings => settings(source),

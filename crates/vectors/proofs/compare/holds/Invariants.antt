@@ -1,6 +1,0 @@
--- What is left of the buffer shrinks.
-use Rattle.std.proofs.Common.{◌-◌, length}
-use Rattle.vectors.proofs.compare.holds.Given as goal
-
-abbrev pub decreases-loop-i : goal.decreases-loop-i
-decreases-loop-i l = length l.s - l.i
