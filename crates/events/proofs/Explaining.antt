@@ -1,6 +1,6 @@
 -- What is said of a record: by a file in parts, and with the refused records skipped.
 use Rattle.std.proofs.Common.{◌≡◌, ℕ, zero, suc, ◌+◌, ◌-◌, ◌*◌, ◌%◌, ◌<◌, ◌≤◌, Bool, true, false, ltb, List, [], ◌∷◌, ◌++◌, length, take, drop, sym, refl, ap, ◌∙◌, true≢false, append-nil, arith, length-append, take-append-drop, length-take, take_all, ltb-false, ltb-true, le-ltb, lt-ltb}
-use Rattle.std.specs.Prelude.{Option, None, Some}
+use Rattle.std.specs.Prelude.{Option, None, Some, is_none}
 use Rattle.monitor.proofs.Laws.{nothing-there}
 use lib.Seq.{take-append-le, take-append-add}
 use Rattle.monitor.specs.declared.record.Monitor.{Monitor}
@@ -52,7 +52,7 @@ module _ (m : Monitor) (s t : List ℕ) (whole : 16 * whole_records s ≡ length
       rw (shifted i, before_shifted i, ← played, later-record s t whole i)
 
 -- two parts: where the first says nothing, the second is asked the question that the first leaves
-two-parts :
+pub two-parts :
     (q : Question) (s t : List ℕ) →
     length s % 16 ≡ 0 →
     part_said q (s ++ t) ≡ or_else (part_said q s) (part_said (after_part q s) t)
@@ -83,7 +83,7 @@ ends-before q s e = by (ltb q.before (whole_records s)) refl
     by true h = absurd (nothing-there _ (sym (rw h at e)))
     by false h = ltb-false q.before (whole_records s) h
 
-pub says_nothing : (o : Option Said) → found true (λ said. false) o ≡ true → o ≡ None
+pub says_nothing : (o : Option Said) → is_none o ≡ true → o ≡ None
 says_nothing None e = refl
 says_nothing (Some said) e = absurd (true≢false (sym e))
 

@@ -2,115 +2,76 @@
 // input is the record's number, and after it the file. It reads, calls and writes; what it prints is made by `events`.
 #![tactic(auto)]
 
-ghost use Rattle.std.specs.Prelude.{true, false, ◌≡◌, length, take, IsNone};
-ghost use Rattle.monitor.specs.Calls.{found};
+ghost use Rattle.std.specs.Prelude.{true, false, ◌≡◌, List, ℕ, length, is_none, is_some, IfOk};
+ghost use Rattle.std.specs.ControlFlow.{ForBreak, ForContinue, continue_value};
 ghost use Rattle.streams.specs.Blocks.{goes_on};
-ghost use Rattle.events.specs.Explain.{after_part, part_said, says_explained};
+ghost use Rattle.events.specs.declared.explain.Question.{Question};
+ghost use Rattle.events.specs.Explain.{after_part, part_said, says};
 
-use events::{Explained, Question};
+use events::{Question, Said};
 use std::io;
 use std::io::{Read, Write};
+use std::ops::ControlFlow;
+use streams::BLOCK;
 
-// What a block of the file left of the question, and said; its bytes, why a read failed, and whether the next one is to
-// be read.
-#[derive(Clone, Copy)]
-struct Turn {
-    question: Question,
-    said: Explained,
-    n: usize,
-    failed: Option<io::Error>,
-    more: bool,
-}
+// What a block of the file leaves of the question, where the next one is to be read; else what the last one says.
+type Turn = ControlFlow<Option<Said>, Question>;
 
-// A buffer for the number.
-fn number_buffer() -> [u8; 4]
-    ensures { 4 ≡ length result }
+// One block of the file. The next one is to be read exactly where this one is whole and says nothing.
+fn advance(q: Question, block: &[u8]) -> Turn
+    ensures next { ForContinue result (λ next. next ≡ after_part q block.now) }
+    ensures said { ForBreak result (λ said. says said ≡ part_said q block.now) }
+    ensures more { is_some (continue_value result) ≡ goes_on (length block.now) (is_none (part_said q block.now)) }
 {
-    [0; 4]
-}
-
-// Prints what is said, or says on standard error that it could not.
-fn print<W: Write, E: Write>(e: Explained, output: &mut W, errors: &mut E) {
-    let line = events::explained_line(e);
-    let bytes = line.bytes;
-    let len = line.len;
-    if let Err(why) = output.write_all(&bytes[..len]) {
-        streams::fail_to_write(errors, b"explain: cannot write", why);
-    }
-}
-
-// One block of the file. The next one is to be read exactly where this one was read whole and says nothing.
-fn advance<R: Read>(q: Question, input: &mut R, block: &mut [u8]) -> Turn
-    requires { length block.old ≡ 65536 }
-    ensures next { result.question ≡ after_part q (take result.n block.new) }
-    ensures said { says_explained result.said ≡ part_said q (take result.n block.new) }
-    ensures more { result.more ≡ goes_on result.n (found true (λ said. false) (says_explained result.said)) }
-{
-    let filled = streams::fill(input, block);
-    let n = filled.n;
-    let failed = filled.failed;
-    let e = q.read(&block[..n]);
-    let question = e.next;
-    let said = e.said;
-    let more = streams::goes_on(n, events::unread(said));
-    Turn {
-        question,
-        said,
-        n,
-        failed,
-        more,
+    let e = q.read(block);
+    if streams::goes_on(block.len(), e.said.is_none()) {
+        ControlFlow::Continue(e.next)
+    } else {
+        ControlFlow::Break(e.said)
     }
 }
 
 // Block after block, until something is said or the file ends.
-fn search<R: Read>(q: Question, input: &mut R) -> Turn
-    ensures { result.more ≡ false }
+fn search<R: Read>(q: Question, input: &mut R) -> io::Result<Option<Said>>
+    ensures { IfOk result (λ said. (last : Question) × (block : List ℕ) × (says said ≡ part_said last block)
+        × (goes_on (length block) (is_none (part_said last block)) ≡ false)) }
 {
-    let mut block = streams::large_buffer();
+    let mut block = [0; BLOCK];
     let mut question = q;
     loop {
-        let turn = advance(question, input, &mut block);
-        if turn.more {
-            question = turn.question;
-        } else {
-            return turn;
+        let n = streams::fill(input, &mut block).unless_failed()?;
+        match advance(question, &block[..n]) {
+            ControlFlow::Continue(next) => question = next,
+            ControlFlow::Break(said) => return Ok(said),
         }
     }
 }
 
-// Prints what the last block says: no read has failed.
-fn print_last<W: Write, E: Write>(last: Turn, output: &mut W, errors: &mut E)
-    requires { IsNone last.failed }
-{
-    let said = last.said;
-    print(said, output, errors);
-}
-
-// Prints what the file says of a question.
-fn answer<R: Read, W: Write, E: Write>(q: Question, input: &mut R, output: &mut W, errors: &mut E) {
-    let last = search(q, input);
-    match last.failed {
-        Some(why) => streams::fail(errors, b"explain: cannot read", why),
-        None => print_last(last, output, errors),
+// What is said of an input: by its number alone, or else by the file behind it.
+fn ask<R: Read>(input: &mut R) -> io::Result<Option<Said>> {
+    let mut number = [0; 4];
+    let n = streams::fill(input, &mut number).unless_failed()?;
+    let e = Question::new(&number[..n]);
+    if e.said.is_some() {
+        Ok(e.said)
+    } else {
+        search(e.next, input)
     }
 }
 
-// The number, and then the file.
+// Prints what is said, or says on standard error that it could not.
+fn print<W: Write, E: Write>(said: Option<Said>, output: &mut W, errors: &mut E) {
+    let line = events::explained_line(said);
+    if let Err(why) = output.write_all(line.as_bytes()) {
+        streams::fail_to_write(errors, b"explain: cannot write", why);
+    }
+}
+
+// Prints what is said of an input. Where a read fails nothing is: standard error says why.
 fn run<R: Read, W: Write, E: Write>(input: &mut R, output: &mut W, errors: &mut E) {
-    let mut number = number_buffer();
-    let filled = streams::fill(input, &mut number);
-    let n = filled.n;
-    match filled.failed {
-        Some(why) => streams::fail(errors, b"explain: cannot read", why),
-        None => {
-            let e = Question::new(&number[..n]);
-            let said = e.said;
-            if events::unread(said) {
-                answer(e.next, input, output, errors);
-            } else {
-                print(said, output, errors);
-            }
-        }
+    match ask(input) {
+        Ok(said) => print(said, output, errors),
+        Err(why) => streams::fail(errors, b"explain: cannot read", why),
     }
 }
 

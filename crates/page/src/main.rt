@@ -3,94 +3,101 @@
 #![tactic(auto)]
 
 mod input;
-mod output;
 mod progress;
 
-ghost use Rattle.std.specs.Prelude.{true, ◌≡◌, ◌≤◌, ◌<◌, ◌^◌, length, take};
+ghost use Rattle.std.specs.Prelude.{true, false, ◌≡◌, ◌≤◌, ◌<◌, ◌^◌, take, IfOk};
+ghost use Rattle.std.specs.ControlFlow.{ForBreak, ForContinue};
 ghost use Rattle.streams.specs.Blocks.{goes_on};
 ghost use Rattle.page.specs.Progress.{after_block};
 
 use input::Input;
-use progress::Progress;
+use progress::{Lines, Progress};
+use std::io;
 use std::io::{Read, Write};
+use std::ops::ControlFlow;
+use streams::BLOCK;
 
 // More records than any input has: nothing else says that the input ends.
 const RECORDS: u64 = 4_503_599_627_370_496;
 
-// What a block of input left; its bytes, whether they were read and their lines written, and whether the next one is to
-// be read.
+// What the last block of input left, and its bytes.
 #[derive(Clone, Copy)]
-struct Turn {
+struct Last {
     progress: Progress,
     n: usize,
-    ok: bool,
-    more: bool,
 }
 
-// One block of input and its refused lines. The next one is read exactly where this one was read whole and its lines
-// are written.
+// What ends the program before the page is printed.
+#[derive(Clone, Copy)]
+enum Failure {
+    Read(io::Error),
+    Write(io::Error),
+}
+
+// One block of input and its refused lines. The next one is to be read exactly where this one was read whole and its
+// lines are written.
 #[tactic(auto, unfolding(streams::specs::Blocks::goes_on))]
-fn advance<R: Read, W: Write, E: Write>(
+fn advance<R: Read, W: Write>(
     p: Progress,
     input: &mut R,
-    block: &mut [u8],
-    lines: &mut [u8],
+    block: &mut [u8; BLOCK],
+    lines: &mut Lines,
     output: &mut W,
-    errors: &mut E,
-) -> Turn
-    requires { (length block.old ≡ 65536) × (length lines.old ≡ 204800) × (p.next < 2 ^ 60) }
-    ensures more { result.more ≡ goes_on result.n result.ok }
-    ensures read { result.ok ≡ true → result.progress ≡ after_block p (take result.n block.new) }
+) -> Result<ControlFlow<Last, Progress>, Failure>
+    requires { p.next < 2 ^ 60 }
+    ensures next { IfOk result (λ turn. ForContinue turn (λ next. next ≡ after_block p block.new)) }
+    ensures last { IfOk result (λ turn. ForBreak turn (λ last.
+        (last.progress ≡ after_block p (take last.n block.new)) × (goes_on last.n true ≡ false))) }
 {
-    let filled = streams::fill(input, block);
-    let n = filled.n;
-    if let Some(why) = filled.failed {
-        streams::fail(errors, b"page: cannot read", why);
-        return Turn {
-            progress: p,
-            n,
-            ok: false,
-            more: false,
-        };
-    }
-    let taken = p.take(&block[..n], lines);
-    let progress = taken.progress;
-    let len = taken.len;
-    let ok = output::write(&lines[..len], output, errors);
-    let more = streams::goes_on(n, ok);
-    Turn {
-        progress,
-        n,
-        ok,
-        more,
+    let n = streams::fill(input, block)
+        .unless_failed()
+        .map_err(Failure::Read)?;
+    let progress = p.take(&block[..n], lines);
+    output.write_all(lines.as_bytes()).map_err(Failure::Write)?;
+    if streams::goes_on(n, true) {
+        Ok(ControlFlow::Continue(progress))
+    } else {
+        Ok(ControlFlow::Break(Last { progress, n }))
     }
 }
 
 // Block after block, each from the records so far, up to the last one.
-fn read_all<R: Read, W: Write, E: Write>(input: &mut R, output: &mut W, errors: &mut E) -> Turn
-    ensures { result.more ≡ true → 2 ^ 52 ≤ result.progress.next }
+#[tactic(auto, unfolding(crate::specs::Progress::nothing_read))]
+fn read_all<R: Read, W: Write>(input: &mut R, output: &mut W) -> Result<Last, Failure>
+    ensures { IfOk result (λ last. goes_on last.n true ≡ true → 2 ^ 52 ≤ last.progress.next) }
 {
-    let mut block = streams::large_buffer();
-    let mut lines = output::lines();
+    let mut block = [0; BLOCK];
+    let mut lines = Lines::new();
     let mut progress = Progress::start();
     loop {
-        let turn = advance(progress, input, &mut block, &mut lines, output, errors);
-        if turn.more {
-            progress = turn.progress;
-            if RECORDS <= progress.next {
-                return turn;
-            }
-        } else {
-            return turn;
+        match advance(progress, input, &mut block, &mut lines, output)? {
+            ControlFlow::Continue(next) => progress = next,
+            ControlFlow::Break(last) => return Ok(last),
+        }
+        if RECORDS <= progress.next {
+            return Ok(Last { progress, n: BLOCK });
         }
     }
 }
 
+// The end, behind the last block: the line of what was left over, and the page.
+fn finish<W: Write>(last: Last, output: &mut W) -> io::Result<()> {
+    output.write_all(last.progress.end_line(last.n).as_bytes())?;
+    output.write_all(last.progress.page_text().as_bytes())
+}
+
 // The blocks, and behind the last one the page.
+fn print<R: Read, W: Write>(input: &mut R, output: &mut W) -> Result<(), Failure> {
+    let last = read_all(input, output)?;
+    finish(last, output).map_err(Failure::Write)
+}
+
+// The same; where it fails standard error says why.
 fn run<R: Read, W: Write, E: Write>(input: &mut R, output: &mut W, errors: &mut E) {
-    let last = read_all(input, output, errors);
-    if last.ok {
-        output::finish(last.progress, last.n, output, errors);
+    match print(input, output) {
+        Ok(()) => {}
+        Err(Failure::Read(why)) => streams::fail(errors, b"page: cannot read", why),
+        Err(Failure::Write(why)) => streams::fail_to_write(errors, b"page: cannot write", why),
     }
 }
 
@@ -98,8 +105,8 @@ fn main(rt: HostRuntime) {
     let mut output = rt.stdout();
     let mut errors = rt.stderr();
     match input::open(&rt, &mut errors) {
-        Input::Standard => run(&mut rt.stdin(), &mut output, &mut errors),
-        Input::Named(mut file) => run(&mut file, &mut output, &mut errors),
-        Input::Missing => {}
+        Some(Input::Standard) => run(&mut rt.stdin(), &mut output, &mut errors),
+        Some(Input::Named(mut file)) => run(&mut file, &mut output, &mut errors),
+        None => {}
     }
 }

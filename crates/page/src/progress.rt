@@ -1,26 +1,22 @@
 // What has been read so far, and what is printed of it.
 ghost use Rattle.std.specs.Prelude.{◌≡◌, ◌≤◌, ◌<◌, ◌^◌, length};
-ghost use Rattle.text.specs.Lines.{as_line};
-ghost use Rattle.text.specs.Pages.{as_text, text_of};
+ghost use Rattle.text.specs.Pages.{text_of};
 ghost use Rattle.monitor.specs.Report.{page_of};
-ghost use Rattle.events.specs.Blocks.{end_line};
-ghost use Rattle.page.specs.Progress.{nothing_read, after_block, Told};
+ghost use Rattle.events.specs.Blocks.{refused_lines, end_line};
+ghost use Rattle.page.specs.Progress.{nothing_read, after_block};
 
+use arrayvec::ArrayString;
 use monitor::Monitor;
 use text::{Line, Text};
+
+// The refused lines of a block: 50 bytes for each of 4,096 records.
+pub type Lines = ArrayString<204800>;
 
 // The monitor that the records so far have left, and the number of the next record.
 #[derive(Clone, Copy)]
 pub struct Progress {
     pub monitor: Monitor,
     pub next: u64,
-}
-
-// What a block of input leaves, and the bytes of its refused lines.
-#[derive(Clone, Copy)]
-pub struct Taken {
-    pub progress: Progress,
-    pub len: usize,
 }
 
 impl Progress {
@@ -33,36 +29,32 @@ impl Progress {
         Progress { monitor, next: 0 }
     }
 
-    // The next block, with its refused lines.
-    pub(crate) fn take(self, s: &[u8], out: &mut [u8]) -> Taken
-        requires { (length s.now ≤ 65536) × (length out.old ≡ 204800) × (self.next < 2 ^ 60) }
-        ensures progress { result.progress ≡ after_block self s.now }
-        ensures lines { Told self.next s.now out.old out.new result.len }
+    // The next block. Its refused lines take the place of those of the block before.
+    pub(crate) fn take(self, s: &[u8], lines: &mut Lines) -> Progress
+        requires { (length s.now ≤ 65536) × (self.next < 2 ^ 60) }
+        ensures progress { result ≡ after_block self s.now }
+        ensures lines { lines.new.bytes ≡ refused_lines self.next s.now }
     {
+        lines.clear();
+        let monitor = events::replay_block(self.monitor, s, self.next, lines);
         let next = self.next + (s.len() / 16) as u64;
-        let b = events::replay_block(self.monitor, s, self.next, out);
-        let monitor = b.monitor;
-        let len = b.len;
-        let progress = Progress { monitor, next };
-        Taken { progress, len }
+        Progress { monitor, next }
     }
 
     // The line of what is left over at the end, in a last block of n bytes.
     pub fn end_line(self, n: usize) -> Line
-        ensures value { result ≡ as_line (end_line self.next n) }
-        ensures len_in_bounds { result.len ≤ length result.bytes }
+        ensures { result.bytes ≡ end_line self.next n }
     {
         events::end_line(self.next, n)
     }
 
     // The page, as text.
+    #[tactic(auto, unfolding(monitor::specs::Report::after_page, rules::specs::Refusals::page_refusal))]
     pub fn page_text(self) -> Text
-        ensures value { result ≡ as_text (text_of (page_of self.monitor)) }
-        ensures len_in_bounds { result.len ≤ length result.bytes }
+        ensures { result.bytes ≡ text_of (page_of self.monitor) }
     {
         let mut page = [0; 512];
-        let m = self.monitor;
-        m.page(&mut page);
+        let _ = self.monitor.page(&mut page);
         text::page_text(&page)
     }
 }

@@ -1,8 +1,7 @@
--- A turn that is not the last has read a whole block and taken its 4,096 records.
-use Rattle.std.proofs.Common.{◌≡◌, ℕ, ◌+◌, ◌/◌, List, sym, ap, ◌∙◌, length, length-take, rules, arith}
-use Rattle.streams.proofs.Laws.{whole-and-wanted}
+-- A block after which the next one is read is whole: its 4,096 records are counted.
+use Rattle.std.proofs.Common.{◌≡◌, ℕ, ◌+◌, ◌/◌, List, ap, length, arith}
 use Rattle.page.specs.declared.progress.Progress.{Progress}
-use Rattle.page.specs.Progress.{nothing_read, after_block}
+use Rattle.page.specs.Progress.{after_block}
 use Rattle.page.proofs.read_all.Goals as goal
 
 -- a block's records are counted
@@ -10,17 +9,6 @@ counted : (p q : Progress) (s : List ℕ) → p ≡ after_block q s → p.next �
 unfolding after_block
 counted p q s after = ap (λ (r : Progress). r.next) after
 
-pub loop-progress-init : goal.loop-progress-init
-unfolding nothing_read
-loop-progress-init g c = record {
-  block = search rules;
-  lines = search rules;
-  next = rw c.start-progress.ensures (omega arith);
-}
-
-pub loop-progress-smaller : goal.loop-progress-smaller
-loop-progress-smaller g c =
-    let turn = c.advance-turn in
-    let on = whole-and-wanted _ _ (sym turn.ensures.more ∙ c.if-turn.true) in
-    let further = counted _ _ _ (turn.ensures.read on.1) in
-    omega (arith, simp length-take at further, on.0)
+pub loop-next-smaller : goal.loop-next-smaller
+loop-next-smaller g c =
+    let further = counted _ _ _ (c.in_ok-next.ensures.next _ c.in-Continue.is) in omega (arith, further)

@@ -1,5 +1,5 @@
 -- What the reads gave stands in the buffer one read behind the other.
-use Rattle.std.proofs.Common.{◌≡◌, ℕ, ◌+◌, ◌-◌, ◌≤◌, List, ◌++◌, rules, arith, length, sym, ap, ◌∙◌, subst, le_refl, take, drop, drop_at, length-take-le}
+use Rattle.std.proofs.Common.{◌≡◌, ℕ, ◌+◌, ◌-◌, ◌≤◌, List, ◌++◌, rules, length, sym, ap, ◌∙◌, subst, le_refl, take, drop, drop_at, length-take-le}
 use Rattle.std.proofs.lemmas.Slice.{take-put_mid_below}
 use Rattle.std.specs.Io.KnownBytes.{Consumes}
 use Rattle.std.proofs.KnownBytes.{Consumes-trans}
@@ -19,9 +19,9 @@ take-put_mid a k n xs ys within fits =
 
 pub loop-n-preserved : goal.loop-n-preserved
 loop-n-preserved g c =
-    let joined = take-put_mid c.loop-n.n (length c.loop-n.s - c.loop-n.n) c.read_once-read.result.n c.loop-n.s
-    c.read_once-read.new.s c.loop-n.invariant.within (omega arith) in
+    let joined = take-put_mid c.loop-n.n (length c.loop-n.s - c.loop-n.n) c.in-Ok.more c.loop-n.s
+    c.read.new.buf c.loop-n.invariant.within c.in-Ok.ensures.bound.0 in
     record {
       within = search rules;
-      bytes = subst (Consumes _ _) (sym joined) (Consumes-trans _ _ _ _ _ c.loop-n.invariant.bytes c.read_once-read.ensures.bytes);
+      bytes = subst (Consumes _ _) (sym joined) (Consumes-trans _ _ _ _ _ c.loop-n.invariant.bytes c.in-Ok.ensures.bytes.0);
     }
