@@ -19,7 +19,7 @@ fn line(index: u64, refusal: Refusal) -> Line
     text::refused_record(index, u64::from(u8::from(refusal)))
 }
 
-// The records of a block, whose lines have room.
+// The records of a block, whose lines have room. A turn goes on behind the record that a run stopped at.
 fn replay_lines<const N: usize>(
     m: Monitor,
     s: &[u8],

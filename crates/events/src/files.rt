@@ -21,7 +21,8 @@ pub struct Stop {
     pub refused: Option<RefusedRecord>,
 }
 
-// The whole records of a slice, up to the first that is refused: one by its call, and the stretch that follows it.
+// The whole records of a slice, up to the first that is refused: one by its call, and the stretch that follows it. The
+// loop is no `for`: a turn goes on by as many records as the stretch has.
 pub fn run(m: Monitor, s: &[u8]) -> Stop
     ensures monitor { result.monitor ≡ play_from m (calls_before s.now (accepted_records s.now)) }
     ensures refused { says_refused result.refused ≡ first_refused s.now }
@@ -49,7 +50,8 @@ pub fn run(m: Monitor, s: &[u8]) -> Stop
     }
 }
 
-// All whole records of a slice; those that are refused are passed over.
+// All whole records of a slice; those that are refused are passed over. A turn goes on behind the record that a run
+// stopped at.
 pub fn replay(m: Monitor, s: &[u8]) -> Monitor
     ensures { result ≡ play_from m (history_of s.now) }
 {

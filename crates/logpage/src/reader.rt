@@ -1,5 +1,6 @@
 // Log page C3h read back (document 02, Ticket 1): what it shows, or why it is turned away.
-ghost use Rattle.std.specs.Prelude.{◌≡◌, length};
+ghost use Rattle.std.specs.Prelude.{◌≡◌, ◌<◌, ◌^◌, length};
+ghost use Rattle.endian.specs.Loads.{values_at};
 ghost use Rattle.refusals.specs.Refusals.{refusal_in};
 ghost use Rattle.logpage.specs.Page.{head_widths, tail_widths};
 ghost use Rattle.logpage.specs.Reader.{head_in, tail_in, identity_in, identified, Bounded, settings_from, debug_from};
@@ -60,36 +61,37 @@ struct Tail {
     ghost bounded: { Bounded tail_widths values },
 }
 
+// The values of a part's fields, by their widths.
+fn values<const N: usize>(part: &[u8], widths: &[usize; N]) -> [u64; N]
+    requires { N < 2 ^ 60 }
+    ensures { result ≡ values_at 0 widths.now part.now }
+{
+    let mut values = [0; N];
+    endian::load_fields(part, widths, &mut values);
+    values
+}
+
 fn head_in(page: &[u8; 512]) -> Head
     ensures { result.values ≡ head_in page.now }
 {
-    let mut values = [0; 10];
-    endian::load_fields(&page[0..13], &page::HEAD_WIDTHS, &mut values);
-    Head { values }
+    Head {
+        values: values(&page[0..13], &page::HEAD_WIDTHS),
+    }
 }
 
 fn tail_in(page: &[u8; 512]) -> Tail
     ensures { result.values ≡ tail_in page.now }
 {
-    let mut values = [0; 6];
-    endian::load_fields(&page[448..465], &page::TAIL_WIDTHS, &mut values);
-    Tail { values }
-}
-
-// Log Page Version, and the two halves of the GUID.
-fn identity_in(page: &[u8; 512]) -> [u64; 3]
-    ensures { result ≡ identity_in page.now }
-{
-    let mut values = [0; 3];
-    endian::load_fields(&page[494..512], &page::IDENTITY_WIDTHS, &mut values);
-    values
+    Tail {
+        values: values(&page[448..465], &page::TAIL_WIDTHS),
+    }
 }
 
 // Whether version and GUID are the page's.
 fn identified(page: &[u8; 512]) -> bool
     ensures { result ≡ identified page.now }
 {
-    let found = identity_in(page);
+    let found = values(&page[494..512], &page::IDENTITY_WIDTHS);
     let identity = page::IDENTITY;
     (found[0] == identity[0]) & (found[1] == identity[1]) & (found[2] == identity[2])
 }

@@ -7,11 +7,11 @@ use lib.Dec.{eqb}
 use lib.Seq.{sets, sets-eq, take_all, get_or-drop}
 use borrow.Author.Rules.{part_to_end}
 use Rattle.endian.specs.Loads.{number}
-use Rattle.endian.proofs.Numbers.{below}
+use Rattle.endian.proofs.Numbers.{below, zero_clear, nonzero-set}
 use Rattle.endian.specs.Bytes.{any_set}
 use Rattle.std.specs.Prelude.{Option, None, Some}
 use Prim.Native.Nat.{ℕ, ◌+◌, ◌-◌, ◌<◌, ◌≤◌}
-use borrow.Author.Tests.{eq-eqb, ne_eqb}
+use borrow.Author.Tests.{eq-eqb, ne_eqb, eqb-true, eqb-false}
 use lib.ListN.{length, get_or, take, drop, length-take, replicate}
 use Rattle.rules.specs.declared.commands.Command.{Command}
 use Rattle.monitor.specs.declared.record.Monitor.{Monitor}
@@ -41,27 +41,43 @@ unfolding any_set
 any-of-both [] b = refl
 any-of-both (x ∷ a) b = rw (any-of-both a b) (sym (or_assoc (not (eqb x 0)) (any_set a) (any_set b)))
 
+-- a part of at most eight bytes is loaded whole
+pub loaded : (l : List ℕ) (n : ℕ) → n ≤ 8 → number (take 8 (take n l)) ≡ number (take n l)
+loaded l n h = rw (take_all 8 (take n l) (omega (arith, length-take n l)))
+
+-- a part of at most eight bytes is zero as a number where none of them is set
+none-set-in : (l : List ℕ) (n a : ℕ) → n ≤ 8 → a ≡ number (take 8 (take n l)) → eqb a 0 ≡ not (any_set (take n l))
+none-set-in l n a h e = rw (e, loaded l n h) (by (eqb (number (take n l)) 0) refl)
+  where
+    by : (t : Bool) → eqb (number (take n l)) 0 ≡ t → eqb (number (take n l)) 0 ≡ not (any_set (take n l))
+    by true z = rw (z, zero_clear (take n l) (eqb-true (number (take n l)) 0 z))
+    by false z = rw (z, nonzero-set (take n l) (eqb-false (number (take n l)) 0 z))
+
 -- neither part of what a kind leaves unnamed has a byte that is set
 pub both-clear :
-    (r : List ℕ) (from to rest : ℕ) (a b : Bool) →
+    (r : List ℕ) (from to rest a b : ℕ) →
     length r ≡ 16 →
-    a ≡ any_set (part from to r) →
-    b ≡ any_set (take (16 - rest) (drop rest r)) →
-    (not a && not b) ≡ not (any_set (unnamed from to rest r))
-both-clear r from to rest a b sixteen ea eb =
+    to - from ≤ 8 →
+    16 - rest ≤ 8 →
+    a ≡ number (take 8 (take (to - from) (drop from r))) →
+    b ≡ number (take 8 (take (16 - rest) (drop rest r))) →
+    (eqb a 0 && eqb b 0) ≡ not (any_set (unnamed from to rest r))
+both-clear r from to rest a b sixteen few short ea eb =
     let tail : take (16 - rest) (drop rest r) ≡ drop rest r =
     ap (λ (n : ℕ). take (n - rest) (drop rest r)) (sym sixteen) ∙ part_to_end r rest
     in
-    rw (ea, eb, tail, any-of-both (part from to r) (drop rest r)) (by (any_set (part from to r)))
+    rw (
+      none-set-in (drop from r) (to - from) a few ea,
+      none-set-in (drop rest r) (16 - rest) b short eb,
+      tail,
+      any-of-both (part from to r) (drop rest r),
+    ) (by (any_set (part from to r)))
   where
     by : (t : Bool) → (not t && not (any_set (drop rest r))) ≡ not (t || any_set (drop rest r))
     by true = refl
     by false = refl
 
--- a part of at most eight bytes is loaded whole, and four bytes make a number of 32 bits
-pub loaded : (l : List ℕ) (n : ℕ) → n ≤ 8 → number (take 8 (take n l)) ≡ number (take n l)
-loaded l n h = rw (take_all 8 (take n l) (omega (arith, length-take n l)))
-
+-- four bytes make a number of 32 bits
 pub four-fit :
     (l : List ℕ) (n : ℕ) →
     n ≡ number (take 8 (take 4 l)) →

@@ -1,5 +1,5 @@
 // One record: the call that it stands for.
-ghost use Rattle.std.specs.Prelude.{◌≡◌, not, ◌≤◌, IfErr};
+ghost use Rattle.std.specs.Prelude.{◌≡◌, not, ◌+◌, ◌≤◌, IfErr};
 ghost use Rattle.std.specs.Result.{result_ok};
 ghost use Rattle.endian.specs.Bytes.{any_set};
 ghost use Rattle.records.specs.Records.{unnamed, part, record_kind, elapsed_of, command_of, call_of_kind, call_of, says_event};
@@ -32,12 +32,13 @@ pub enum Event {
     PowerUp,
 }
 
-// Whether the bytes from `from` up to `to`, and those from `rest` on, are all zero.
+// Whether the bytes from `from` up to `to`, and those from `rest` on, are all zero; at most eight each, so that each
+// part is one number.
 fn clear(r: &[u8; 16], from: usize, to: usize, rest: usize) -> bool
-    requires { (from ≤ to) × (to ≤ 16) × (rest ≤ 16) }
+    requires { (from ≤ to) × (to ≤ 16) × (to ≤ from + 8) × (8 ≤ rest) × (rest ≤ 16) }
     ensures { result ≡ not (any_set (unnamed from to rest r.now)) }
 {
-    !endian::any_set(&r[from..to]) & !endian::any_set(&r[rest..])
+    (endian::load(&r[from..to]) == 0) & (endian::load(&r[rest..]) == 0)
 }
 
 // The settings bytes of a record.
@@ -70,6 +71,7 @@ fn command(r: &[u8; 16]) -> Command
 impl Event {
     // The event of 16 bytes, by their kind; the bytes that a kind leaves unnamed are zero.
     #[tactic(auto, unfolding(crate::specs::Records::call_of_kind, crate::specs::Records::completion_of, crate::specs::Records::settings_bytes, crate::specs::Records::elapsed_of, crate::specs::Records::clock_of))]
+    #[inline(always)]
     fn of(r: &[u8; 16]) -> Option<Event>
         ensures { says_event result ≡ call_of_kind (record_kind r.now) r.now }
     {
@@ -85,6 +87,7 @@ impl Event {
     }
 
     // The event of a record. What is not 16 bytes, or stands for no call, is none.
+    #[inline(always)]
     pub fn read(r: &[u8]) -> Result<Event, Refusal>
         ensures event { says_event (result_ok result) ≡ call_of r.now }
         ensures refusal { IfErr result (λ e. e ≡ Refusal.UnknownRecord) }

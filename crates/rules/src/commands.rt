@@ -27,7 +27,8 @@ fn reaches(latency: u32, threshold: u8) -> bool
 }
 
 // The number of the highest bucket whose threshold is reached, by whether A, B, C and D are. These are four parameters
-// and no array: the compiler then makes a choice without branches of the search.
+// and no array: the compiler then makes a choice without branches of the search. A loop that leaves by `break`, and no
+// `find`: docs/DECISIONS.md, 'Forms that document 01 names'.
 fn highest(a: bool, b: bool, c: bool, d: bool) -> Option<u16>
     ensures { result ≡ highest_reached (a ∷ b ∷ c ∷ d ∷ []) 4 }
 {

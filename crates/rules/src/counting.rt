@@ -13,7 +13,8 @@ pub fn bit(mask: u16, n: usize) -> bool
     (n < 16) & ((mask >> (n % 16)) % 2 == 1)
 }
 
-// The mask that has counter n's bit alone.
+// The mask that has counter n's bit alone. That there are twelve counters stands as a `requires` where an array of twelve
+// is indexed: a type for it would be built and proved at each call.
 fn one_bit(n: usize) -> u16
     requires { n < 12 }
     ensures { result ≡ 2 ^ n }

@@ -1,9 +1,9 @@
 -- Laws of the page's reader: for each way out, what the definitions come to.
 use mathlib.Core.Bool.{Bool, true, false, not, ◌&&◌}
-use mathlib.Core.List.{List}
+use mathlib.Core.List.{List, [], ◌∷◌}
 use Rattle.std.specs.Prelude.{None, Some}
-use mathlib.Core.Path.{◌≡◌, ◌∙◌, sym}
-use Prim.Native.Nat.{ℕ, ◌<◌}
+use mathlib.Core.Path.{◌≡◌, ◌∙◌, sym, refl, ap}
+use Prim.Native.Nat.{ℕ, suc, ◌+◌, ◌<◌}
 use borrow.Author.Tests.{eq-eqb, ne_eqb}
 use lib.ListN.{length, get_or, drop}
 use Rattle.endian.specs.Bytes.{any_set}
@@ -15,6 +15,12 @@ use Rattle.logpage.specs.Reader.{head_fits, tail_fits, page_keeps, page_fits, id
 use Rattle.logpage.specs.declared.fields.DebugLog.{DebugLog}
 use Rattle.logpage.specs.declared.fields.Settings.{Settings}
 use Rattle.window.specs.declared.fields.Window.{Window}
+
+-- there are as many values as fields
+pub values-long : (at : ℕ) (widths s : List ℕ) → length (values_at at widths s) ≡ length widths
+unfolding values_at
+values-long at [] s = refl
+values-long at (w ∷ widths) s = ap suc (values-long (at + w) widths s)
 
 -- the values of a part's fields have no more bytes than those
 pub part-bounded :

@@ -4,4 +4,4 @@ use Rattle.logpage.proofs.reader.identified.Goals as goal
 
 pub returns : goal.returns
 unfolding identified
-returns c = rw c.identity_in-found.ensures
+returns c = rw c.values-found.ensures

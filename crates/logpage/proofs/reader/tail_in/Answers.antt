@@ -1,23 +1,12 @@
--- `tail_in`: the fields fill the array, and none has more bytes than its own.
-use mathlib.Core.Path.{◌≡◌, refl, ◌∙◌}
+-- `tail_in`: no value has more bytes than its field.
+use Prim.Native.Nat.{ℕ}
 use borrow.Author.Rules.{rules}
-use lib.ListN.{replicate}
-use Rattle.endian.specs.Loads.{values_at}
-use Rattle.endian.proofs.Runs.{sets-whole}
 use Rattle.logpage.specs.Page.{tail_widths}
-use Rattle.logpage.specs.Reader.{tail_in}
 use Rattle.logpage.proofs.reader.Laws.{part-bounded}
-use Rattle.logpage.proofs.reader.tail_in.Goals.{After-load_fields}
 use Rattle.logpage.proofs.reader.tail_in.Goals as goal
-
--- the values that were loaded
-loaded : (c : goal.After-load_fields) → c.load_fields.new.values ≡ tail_in c.args.page.now
-unfolding values_at
-loaded c = c.load_fields.ensures ∙ sets-whole (replicate 6 0) (tail_in c.args.page.now) refl
 
 pub invariant_of-result : goal.invariant_of-result
 invariant_of-result c =
-    record { bounded = part-bounded tail_widths c.args.page.now _ 448 17 (λ k. search rules) (loaded (goal.at.invariant_of-result c).After-load_fields) }
-
-pub returns : goal.returns
-returns c = loaded (goal.at.returns c).After-load_fields
+    record {
+      bounded = part-bounded tail_widths c.args.page.now _ 448 17 (λ (k : ℕ). search rules) c.values.ensures;
+    }
