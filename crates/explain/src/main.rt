@@ -2,11 +2,11 @@
 // input is the record's number, and after it the file. It reads, calls and writes; what it prints is made by `events`.
 #![tactic(auto)]
 
-ghost use Rattle.std.specs.Prelude.{true, false, ◌≡◌, List, ℕ, length, is_none, is_some, IfOk};
+ghost use Rattle.std.specs.Prelude.{true, false, ◌≡◌, List, ℕ, length, is_none, is_some, IfOk, IfSome};
 ghost use Rattle.std.specs.ControlFlow.{ForBreak, ForContinue, continue_value};
 ghost use Rattle.streams.specs.Blocks.{goes_on};
 ghost use Rattle.events.specs.declared.explain.Question.{Question};
-ghost use Rattle.events.specs.Explain.{after_part, part_said, says};
+ghost use Rattle.events.specs.Explain.{after_part, at_end, input_said, part_said, says};
 
 use events::{Question, Said};
 use std::io;
@@ -33,8 +33,9 @@ fn advance(q: Question, block: &[u8]) -> Turn
 
 // Block after block, until something is said or the file ends.
 fn search<R: Read>(q: Question, input: &mut R) -> io::Result<Option<Said>>
-    ensures { IfOk result (λ said. (last : Question) × (block : List ℕ) × (says said ≡ part_said last block)
+    ensures ends { IfOk result (λ said. (last : Question) × (block : List ℕ) × (says said ≡ part_said last block)
         × (goes_on (length block) (is_none (part_said last block)) ≡ false)) }
+    ensures said { IfOk result (λ said. IfSome (R.remaining input.old) (λ file. says said ≡ part_said q file)) }
 {
     let mut block = [0; BLOCK];
     let mut question = q;
@@ -48,7 +49,9 @@ fn search<R: Read>(q: Question, input: &mut R) -> io::Result<Option<Said>>
 }
 
 // What is said of an input: by its number alone, or else by the file behind it.
-fn ask<R: Read>(input: &mut R) -> io::Result<Option<Said>> {
+fn ask<R: Read>(input: &mut R) -> io::Result<Option<Said>>
+    ensures { IfOk result (λ said. IfSome (R.remaining input.old) (λ bytes. at_end (says said) ≡ input_said bytes)) }
+{
     let mut number = [0; 4];
     let n = streams::fill(input, &mut number).unless_failed()?;
     let e = Question::new(&number[..n]);

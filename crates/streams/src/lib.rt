@@ -4,7 +4,7 @@
 
 mod failures;
 
-ghost use Rattle.std.specs.Prelude.{◌≡◌, ◌≤◌, ◌<◌, IsNone, IsSome, MatchOption, Ok, Err, leb, length, take};
+ghost use Rattle.std.specs.Prelude.{◌≡◌, ◌≤◌, ◌<◌, IsNone, IsSome, Some, IfOk, IfErr, leb, length, take};
 ghost use Rattle.std.specs.Io.KnownBytes.{Consumes, IsAtEnd};
 ghost use Rattle.streams.specs.Blocks.{goes_on};
 
@@ -27,7 +27,8 @@ pub struct Filled {
 impl Filled {
     // So many bytes, for one to whom they are worth nothing where a read failed.
     pub fn unless_failed(self) -> io::Result<usize>
-        ensures { MatchOption self.failed (result ≡ Ok self.n) (λ why. result ≡ Err why) }
+        ensures ok { IfOk result (λ n. (n ≡ self.n) × IsNone self.failed) }
+        ensures err { IfErr result (λ why. self.failed ≡ Some why) }
     {
         match self.failed {
             Some(why) => Err(why),
