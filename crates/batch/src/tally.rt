@@ -1,10 +1,10 @@
 // The active window, taken out of the record for a loop over many completions. Its counts stand in one array: counter
 // n's at place n, and those below threshold A, by kind, at 12 to 14. From place 15 on none is kept. Counts go on past
 // their top, where the record holds them.
-ghost use Rattle.std.specs.Prelude.{◌≡◌, ◌<◌, false, take, drop};
+ghost use Rattle.std.specs.Prelude.{◌≡◌, ◌<◌, false, [], ◌∷◌, take, drop};
 ghost use Rattle.monitor.specs.Calls.{only_if};
 ghost use Rattle.rules.specs.Counting.{held};
-ghost use Rattle.batch.specs.Tally.{bucket_place, code_of, kind_place, KindPlaces, held_all, AtMost, counter_at_place};
+ghost use Rattle.batch.specs.Tally.{code_of, kind_place, KindPlaces, held_all, AtMost, counter_at_place};
 ghost use Rattle.batch.specs.Tally.{bound_for, Bounds, at_most_loads, stamp_at, stamped_by, completed_by, with_active, Apart};
 ghost use Rattle.batch.specs.Tally.{count_place};
 
@@ -18,8 +18,8 @@ use window::{UNSET, Window};
 // The places that hold a counter.
 const COUNTERS: usize = 12;
 
-// The first place that holds a count below threshold A.
-const BELOW_A: usize = 12;
+// There are four buckets; this is the index, in a table of their places, of those without a bucket.
+const NO_BUCKET: u16 = 4;
 
 // The first place that holds no count.
 const NO_PLACE: u8 = 15;
@@ -27,17 +27,7 @@ const NO_PLACE: u8 = 15;
 // The bound where a completion can only count: every latency but the largest is below it.
 const NO_BOUND: u32 = u32::MAX;
 
-// The place of a bucket's first count; a latency without a bucket is below threshold A.
-pub fn bucket_place(bucket: Option<u16>) -> usize
-    ensures { result ≡ bucket_place bucket }
-{
-    match bucket {
-        Some(bucket) => 3 * usize::from(bucket),
-        None => BELOW_A,
-    }
-}
-
-// What a command's kind adds to that.
+// What a command's kind adds to the place of its bucket's first count.
 #[tactic(auto, unfolding(crate::specs::Tally::kind_place))]
 fn kind_place(enabled: bool, c: Command) -> u8
     ensures { result ≡ kind_place enabled c }
@@ -228,11 +218,14 @@ pub fn stamped(m: Monitor, place: usize, c: Command, stamp: Stamp) -> Option<Sta
     Some(Stamped { stamp, bound })
 }
 
-// The places of counts under settings.
+// The places of counts under settings: each bucket's first, and last that of the counts below threshold A; and what a
+// kind adds. Tables have no branch that a processor could guess wrong.
 #[derive(Clone, Copy)]
 pub struct Places {
     settings: Settings,
+    buckets: [usize; 5],
     kinds: [u8; 512],
+    ghost by_bucket: { buckets ≡ 0 ∷ 3 ∷ 6 ∷ 9 ∷ 12 ∷ [] },
     ghost by_kind: { KindPlaces settings.enabled kinds },
 }
 
@@ -241,17 +234,21 @@ impl Places {
         ensures { result.settings ≡ settings }
     {
         let kinds = kind_places(settings.enabled);
-        Places { settings, kinds }
+        Places {
+            settings,
+            buckets: [0, 3, 6, 9, 12],
+            kinds,
+        }
     }
 
     // The place of a completion's count.
-    #[tactic(auto, using(crate::proofs::tally::Laws::few_places))]
     pub fn place(&self, c: Command) -> usize
         ensures place { result ≡ count_place self.now.settings c }
         ensures few { result < 28 }
     {
         let thresholds = self.settings.thresholds;
-        bucket_place(c.bucket(thresholds)) + usize::from(self.kinds[code(c)])
+        let bucket = c.bucket(thresholds).unwrap_or(NO_BUCKET);
+        self.buckets[usize::from(bucket)] + usize::from(self.kinds[code(c)])
     }
 }
 
