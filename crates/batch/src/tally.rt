@@ -82,6 +82,17 @@ fn held(count: u64) -> u32
     u32::try_from(count).unwrap_or(u32::MAX)
 }
 
+// Counts of the record, to go on from.
+fn widened(counts: [u32; 28]) -> [u64; 28]
+    ensures { result ≡ counts }
+{
+    let mut wide = [0; 28];
+    for (place, count) in wide.iter_mut().enumerate() {
+        *count = u64::from(counts[place]);
+    }
+    wide
+}
+
 // Counts below threshold A and counters in one array.
 fn joined(below: [u32; 3], counters: [u32; 12]) -> [u64; 28]
     ensures below { take 3 (drop 12 (held_all result)) ≡ below }
@@ -91,14 +102,18 @@ fn joined(below: [u32; 3], counters: [u32; 12]) -> [u64; 28]
     let mut counts = [0; 28];
     counts[..12].copy_from_slice(&counters);
     counts[12..15].copy_from_slice(&below);
-    counts.map(u64::from)
+    widened(counts)
 }
 
 // The counts of such an array as the record holds them.
 fn held_all(counts: [u64; 28]) -> [u32; 28]
     ensures { result ≡ held_all counts }
 {
-    counts.map(held)
+    let mut all = [0; 28];
+    for (place, count) in all.iter_mut().enumerate() {
+        *count = held(counts[place]);
+    }
+    all
 }
 
 // The counter of a place; 0 for a place that is no counter's.
