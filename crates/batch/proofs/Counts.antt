@@ -435,11 +435,3 @@ room-for-more m a next place top c is few =
     by : (t : Bool) → ltb c.latency (get_or a.bounds place 0) ≡ t → AtMost (top + 1) next.counts
     by true e = rw (← same_Some _ _ (rw e at is)) one
     by false e = stamps _ (rw e at is)
-
--- the counter of a place is one of twelve
-pub few-counters : (place : ℕ) → counter_at_place place < 12
-few-counters place = by (ltb place 12) refl
-  where
-    by : (t : Bool) → ltb place 12 ≡ t → cond t place 0 < 12
-    by true e = ltb-true place 12 e
-    by false e = omega arith

@@ -83,6 +83,3 @@ both-clear a b e = rw (set-append a b, zero_clear a e) (by (eqb (number b) 0) re
     by : (t : Bool) → eqb (number b) 0 ≡ t → t ≡ not (any_set b)
     by true h = rw (zero_clear b (eqb-true (number b) 0 h))
     by false h = rw (nonzero-set b (eqb-false (number b) 0 h))
-
-pub first-set : (a b : List ℕ) → (number a ≡ 0 → ⊥) → false ≡ not (any_set (a ++ b))
-first-set a b n = rw (set-append a b, nonzero-set a n)

@@ -86,3 +86,12 @@ says_said (Err refusal) = refused (number_of refusal)
 abbrev pub says : Option (Result (Option Reason) Refusal) → Option Said
 says (Some said) = Some (says_said said)
 says None = None
+
+-- what numbers say, of a reason or a refusal
+abbrev pub says_number : Result ℕ ℕ → Said
+says_number (Ok n) = reason n
+says_number (Err n) = refused n
+
+abbrev pub says_numbers : Option (Result ℕ ℕ) → Option Said
+says_numbers (Some said) = Some (says_number said)
+says_numbers None = None

@@ -1,16 +1,21 @@
 // Blocks of an event file: what their records leave of a monitor, and the lines of those that are refused.
-ghost use Rattle.std.specs.Prelude.{◌≡◌, ◌+◌, ◌*◌, ◌-◌, ◌≤◌, [], ◌∷◌, ◌++◌};
+ghost use Rattle.std.specs.Prelude.{◌≡◌, ◌+◌, ◌*◌, ◌≤◌, [], ◌∷◌, length};
 ghost use Rattle.refusals.specs.Refusals.{number_of};
 ghost use Rattle.text.specs.Lines.{refused_line};
-ghost use Rattle.arrayvec.specs.ArrayString.{array_string_len};
-ghost use Rattle.monitor.specs.Calls.{play_from};
-ghost use Rattle.events.specs.Files.{whole_records, history_of};
-ghost use Rattle.events.specs.Blocks.{refused_lines, with_room, end_line};
+ghost use Rattle.events.specs.Files.{whole_records};
+ghost use Rattle.events.specs.Blocks.{Stored, BlockLeaves, with_room, end_line};
 
 use crate::files;
-use arrayvec::ArrayString;
 use monitor::{Monitor, Refusal};
 use text::{LINE, Line};
+
+// What a block leaves: the monitor, and the lines of refused records in the first `len` bytes of the output. That is of
+// any length: a text would have its room in its type.
+#[derive(Clone, Copy)]
+pub struct Block {
+    pub monitor: Monitor,
+    pub len: usize,
+}
 
 // The line of a refused record.
 fn line(index: u64, refusal: Refusal) -> Line
@@ -19,18 +24,25 @@ fn line(index: u64, refusal: Refusal) -> Line
     text::refused_record(index, u64::from(u8::from(refusal)))
 }
 
-// The records of a block, whose lines have room. A turn goes on behind the record that a run stopped at.
-fn replay_lines<const N: usize>(
-    m: Monitor,
-    s: &[u8],
-    first: u64,
-    lines: &mut ArrayString<N>,
-) -> Monitor
-    requires { array_string_len lines.old + 50 * whole_records s.now ≤ N }
-    ensures monitor { result ≡ play_from m (history_of s.now) }
-    ensures lines { lines.new.bytes ≡ lines.old.bytes ++ refused_lines first s.now }
+// Stores the line of a refused record, and says how many bytes it took.
+fn put_line(out: &mut [u8], at: usize, index: u64, refusal: Refusal) -> usize
+    requires { at + 50 ≤ length out.old }
+    ensures { Stored (refused_line (index ∷ number_of refusal ∷ [])) at 50 out.old out.new result }
+{
+    let line = line(index, refusal);
+    let bytes = line.as_str().as_bytes();
+    let n = bytes.len();
+    out[at..at + n].copy_from_slice(bytes);
+    n
+}
+
+// The records of a block, whose lines have room.
+fn replay_lines(m: Monitor, s: &[u8], first: u64, out: &mut [u8]) -> Block
+    requires { 50 * whole_records s.now ≤ length out.old }
+    ensures { BlockLeaves m s.now first out.old out.new result }
 {
     let mut monitor = m;
+    let mut len = 0;
     let mut i = 0;
     loop {
         let from = records::RECORD * i;
@@ -39,8 +51,8 @@ fn replay_lines<const N: usize>(
         match stop.refused {
             Some(refused) => {
                 i = i + refused.index;
-                let line = line(first.wrapping_add(i as u64), refused.refusal);
-                lines.push_str(line.as_str());
+                let record = first.wrapping_add(i as u64);
+                len += put_line(out, len, record, refused.refusal);
                 i = i + 1;
             }
             None => {
@@ -48,22 +60,16 @@ fn replay_lines<const N: usize>(
             }
         }
     }
-    monitor
+    Block { monitor, len }
 }
 
-// A block of whole records, the first of which has the number `first`: as much of it as the lines have room for, 50
+// A block of whole records, the first of which has the number `first`: as much of it as the output has room for, 50
 // bytes a record.
-pub fn replay_block<const N: usize>(
-    m: Monitor,
-    s: &[u8],
-    first: u64,
-    lines: &mut ArrayString<N>,
-) -> Monitor
-    ensures monitor { result ≡ play_from m (history_of (with_room s.now (N - array_string_len lines.old))) }
-    ensures lines { lines.new.bytes ≡ lines.old.bytes ++ refused_lines first (with_room s.now (N - array_string_len lines.old)) }
+pub fn replay_block(m: Monitor, s: &[u8], first: u64, out: &mut [u8]) -> Block
+    ensures { BlockLeaves m (with_room s.now out.old) first out.old out.new result }
 {
-    let room = records::RECORD * (lines.remaining_capacity() / LINE);
-    replay_lines(m, &s[..room.min(s.len())], first, lines)
+    let room = records::RECORD * (out.len() / LINE);
+    replay_lines(m, &s[..room.min(s.len())], first, out)
 }
 
 // The line of bytes that are left over behind so many records, at the end of a last block of n bytes.

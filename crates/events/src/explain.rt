@@ -2,7 +2,7 @@
 // up to the record that is asked about.
 ghost use Rattle.std.specs.Prelude.{◌≡◌, Some, length};
 ghost use Rattle.events.specs.Explain.{record_said, at_end, number_said, said_line, question_of, after_part, part_said};
-ghost use Rattle.events.specs.Explain.{says, says_said};
+ghost use Rattle.events.specs.Explain.{says, says_said, says_number, says_numbers};
 
 use crate::files;
 use monitor::{Monitor, Reason, Refusal};
@@ -92,12 +92,22 @@ impl Question {
     }
 }
 
-// The line of what is said. A record that was not reached by the end of the input is not there.
-pub fn explained_line(said: Option<Said>) -> Line
-    ensures { result.bytes ≡ said_line (at_end (says said)) }
+// The number of the reason, 0 where there is none, or that of the refusal.
+pub fn numbered(said: Said) -> Result<u8, u8>
+    ensures { says_number result ≡ says_said said }
 {
-    match said.unwrap_or(Err(Refusal::NotACompletion)) {
-        Ok(reason) => text::number_line(reason.map_or(0, |reason| u64::from(u8::from(reason)))),
-        Err(refusal) => text::refused_line(u64::from(u8::from(refusal))),
+    match said {
+        Ok(reason) => Ok(reason.map_or(0, |reason| u8::from(reason))),
+        Err(refusal) => Err(u8::from(refusal)),
+    }
+}
+
+// The line of what is said, by its number. A record that was not reached by the end of the input is not there.
+pub fn explained_line(said: Option<Result<u8, u8>>) -> Line
+    ensures { result.bytes ≡ said_line (at_end (says_numbers said)) }
+{
+    match said.unwrap_or(Err(u8::from(Refusal::NotACompletion))) {
+        Ok(reason) => text::number_line(u64::from(reason)),
+        Err(refusal) => text::refused_line(u64::from(refusal)),
     }
 }

@@ -6,7 +6,7 @@ mod explain;
 mod files;
 mod stretch;
 
-pub use blocks::{end_line, replay_block};
-pub use explain::{Explanation, Question, Said, explained_line};
+pub use blocks::{Block, end_line, replay_block};
+pub use explain::{Explanation, Question, Said, explained_line, numbered};
 pub use files::{RefusedRecord, Stop, left_over, replay, run};
 pub use records::{RecordAnswer, apply};

@@ -64,7 +64,7 @@ fn ask<R: Read>(input: &mut R) -> io::Result<Option<Said>>
 
 // Prints what is said, or says on standard error that it could not.
 fn print<W: Write, E: Write>(said: Option<Said>, output: &mut W, errors: &mut E) {
-    let line = events::explained_line(said);
+    let line = events::explained_line(said.map(|said| events::numbered(said)));
     if let Err(why) = output.write_all(line.as_bytes()) {
         streams::fail_to_write(errors, b"explain: cannot write", why);
     }

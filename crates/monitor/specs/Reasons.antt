@@ -12,7 +12,7 @@ use Rattle.rules.specs.Counting.{bit, larger, waited}
 use Rattle.monitor.specs.Calls.{found}
 use Rattle.monitor.specs.Record.{since_load, completion_answer}
 
--- the number of each reason, and 0 where nothing keeps the stamp from being loaded
+-- the number of each reason
 abbrev pub number_of : code.Reason → ℕ
 number_of reason.Disabled = 1
 number_of reason.OfNoKind = 2
@@ -21,6 +21,7 @@ number_of reason.SetInFirst = 4
 number_of reason.NotLarger = 5
 number_of reason.WithinMinimum = 6
 
+-- and 0 where nothing keeps the stamp from being loaded
 abbrev pub says_reason : Option code.Reason → ℕ
 says_reason (Some reason) = number_of reason
 says_reason None = 0

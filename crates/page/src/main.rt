@@ -11,7 +11,7 @@ ghost use Rattle.streams.specs.Blocks.{goes_on};
 ghost use Rattle.page.specs.Progress.{after_block};
 
 use input::Input;
-use progress::{Lines, Progress};
+use progress::{LINES, Progress, Taken};
 use std::io;
 use std::io::{Read, Write};
 use std::ops::ControlFlow;
@@ -41,7 +41,7 @@ fn advance<R: Read, W: Write>(
     p: Progress,
     input: &mut R,
     block: &mut [u8; BLOCK],
-    lines: &mut Lines,
+    lines: &mut [u8; LINES],
     output: &mut W,
 ) -> Result<ControlFlow<Last, Progress>, Failure>
     requires { p.next < 2 ^ 60 }
@@ -52,8 +52,8 @@ fn advance<R: Read, W: Write>(
     let n = streams::fill(input, block)
         .unless_failed()
         .map_err(Failure::Read)?;
-    let progress = p.take(&block[..n], lines);
-    output.write_all(lines.as_bytes()).map_err(Failure::Write)?;
+    let Taken { progress, len } = p.take(&block[..n], lines);
+    output.write_all(&lines[..len]).map_err(Failure::Write)?;
     if streams::goes_on(n, true) {
         Ok(ControlFlow::Continue(progress))
     } else {
@@ -68,7 +68,7 @@ fn read_all<R: Read, W: Write>(input: &mut R, output: &mut W) -> Result<Last, Fa
     ensures { IfOk result (λ last. goes_on last.n true ≡ true → 2 ^ 52 ≤ last.progress.next) }
 {
     let mut block = [0; BLOCK];
-    let mut lines = Lines::new();
+    let mut lines = [0; LINES];
     let mut progress = Progress::start();
     loop {
         match advance(progress, input, &mut block, &mut lines, output)? {

@@ -2,21 +2,28 @@
 ghost use Rattle.std.specs.Prelude.{◌≡◌, ◌≤◌, ◌<◌, ◌^◌, length};
 ghost use Rattle.text.specs.Pages.{text_of};
 ghost use Rattle.monitor.specs.Report.{page_of};
-ghost use Rattle.events.specs.Blocks.{refused_lines, end_line};
-ghost use Rattle.page.specs.Progress.{nothing_read, after_block};
+ghost use Rattle.events.specs.Blocks.{end_line};
+ghost use Rattle.page.specs.Progress.{nothing_read, after_block, Told};
 
-use arrayvec::ArrayString;
+use events::Block;
 use monitor::Monitor;
 use text::{Line, Text};
 
-// The refused lines of a block: 50 bytes for each of 4,096 records.
-pub type Lines = ArrayString<204800>;
+// Room for the refused lines of a block: 50 bytes for each of 4,096 records.
+pub const LINES: usize = 204_800;
 
 // The monitor that the records so far have left, and the number of the next record.
 #[derive(Clone, Copy)]
 pub struct Progress {
     pub monitor: Monitor,
     pub next: u64,
+}
+
+// What a block of input leaves, and the bytes of its refused lines.
+#[derive(Clone, Copy)]
+pub struct Taken {
+    pub progress: Progress,
+    pub len: usize,
 }
 
 impl Progress {
@@ -29,16 +36,16 @@ impl Progress {
         Progress { monitor, next: 0 }
     }
 
-    // The next block. Its refused lines take the place of those of the block before.
-    pub(crate) fn take(self, s: &[u8], lines: &mut Lines) -> Progress
+    // The next block, with its refused lines.
+    pub(crate) fn take(self, s: &[u8], lines: &mut [u8; LINES]) -> Taken
         requires { (length s.now ≤ 65536) × (self.next < 2 ^ 60) }
-        ensures progress { result ≡ after_block self s.now }
-        ensures lines { lines.new.bytes ≡ refused_lines self.next s.now }
+        ensures progress { result.progress ≡ after_block self s.now }
+        ensures lines { Told self.next s.now lines.old lines.new result.len }
     {
-        lines.clear();
-        let monitor = events::replay_block(self.monitor, s, self.next, lines);
         let next = self.next + (s.len() / 16) as u64;
-        Progress { monitor, next }
+        let Block { monitor, len } = events::replay_block(self.monitor, s, self.next, lines);
+        let progress = Progress { monitor, next };
+        Taken { progress, len }
     }
 
     // The line of what is left over at the end, in a last block of n bytes.

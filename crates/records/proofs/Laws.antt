@@ -146,11 +146,6 @@ fits r n e bytes = four-fit (drop 4 r) n e (λ k. rw (get_or-drop 4 r k 0) (byte
 pub padded : (fields : List ℕ) → length fields ≡ 13 → sets (replicate 4096 0) 0 fields ≡ settings_with fields
 padded fields thirteen = sets-eq fields (replicate 4096 0) 0 (rw thirteen (omega arith)) ∙ rw thirteen
 
--- a completion is not refused
-pub completion-accepted : (r : List ℕ) (c : Command) → call_of r ≡ Some (completion c) → record_refusal r ≡ None
-unfolding record_refusal
-completion-accepted r c e = rw e
-
 -- the refusal that an answer names
 abbrev pub refusal_in : CallAnswer → Option ℕ
 refusal_in (refused n) = Some n

@@ -1,4 +1,4 @@
--- 01, Where a call is turned away: rows 1 to 10 of its table. Rows 11 and 12 are those of `events`.
+-- 01, Where a call is turned away: rows 1 to 10 of its table. Row 11 is that of `records`, row 12 that of `events`.
 use Rattle.std.specs.Prelude.{ℕ, Bool, not, ◌||◌, List, eqb, ltb, length, get_or, drop}
 use Rattle.std.specs.Prelude.{Option, None}
 use Rattle.endian.specs.Bytes.{any_set}

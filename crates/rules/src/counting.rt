@@ -22,8 +22,7 @@ fn one_bit(n: usize) -> u16
     1 << n
 }
 
-// The counts after one more completion for number n, each held at its top; a number that has no count changes none. All
-// are looked at, so that they stay in vector registers: a store at n alone would send them through memory.
+// The counts after one more completion for number n, each held at its top; a number that has no count changes none.
 pub fn counted_at<const N: usize>(mut counts: [u32; N], n: u16) -> [u32; N]
     ensures { result ≡ once_more_at counts.entry n }
 {

@@ -1,6 +1,5 @@
 // An event file in blocks, as the page program takes it, with the lines of what is refused.
 use crate::compare::Comparison;
-use arrayvec::ArrayString;
 use monitor::Monitor;
 use records::RECORD;
 use text::LINE;
@@ -27,9 +26,10 @@ fn part(file: &[u8], from: usize, to: usize) -> &[u8] {
 impl Told<'_> {
     // A block of records, whose first has this number.
     fn block(&mut self, s: &[u8], first: usize) {
-        let mut lines = ArrayString::<LINES>::new();
-        self.monitor = events::replay_block(self.monitor, s, first as u64, &mut lines);
-        self.lines.take(lines.as_bytes());
+        let mut lines = [0; LINES];
+        let block = events::replay_block(self.monitor, s, first as u64, &mut lines);
+        self.monitor = block.monitor;
+        self.lines.take(&lines[..block.len]);
     }
 
     // The records of a file from one number up to another.

@@ -3,7 +3,7 @@ ghost use Rattle.std.specs.Prelude.{◌≤◌};
 
 use std::error::Error;
 use std::io::Read;
-use std::{fmt, io};
+use std::fmt;
 
 // The bytes of the longest event file of a vector, and of any other list.
 pub const LONGEST_FILE: usize = 131_072;
@@ -22,19 +22,22 @@ impl fmt::Display for Unread {
 
 impl Error for Unread {}
 
-impl From<io::Error> for Unread {
-    fn from(_e: io::Error) -> Unread {
-        Unread
-    }
-}
-
 // What a call is expected to answer: bytes, or the number that it is refused by, as the file has it.
 pub type Expected<const N: usize> = Result<[u8; N], u8>;
+
+// Fills a buffer.
+fn fill(source: &mut impl Read, s: &mut [u8]) -> Result<(), Unread> {
+    if streams::fill(source, s).n == s.len() {
+        Ok(())
+    } else {
+        Err(Unread)
+    }
+}
 
 // The next bytes.
 pub fn bytes<const N: usize>(source: &mut impl Read) -> Result<[u8; N], Unread> {
     let mut bytes = [0; N];
-    source.read_exact(&mut bytes)?;
+    fill(source, &mut bytes)?;
     Ok(bytes)
 }
 
@@ -43,7 +46,7 @@ pub fn number<const WIDTH: usize>(source: &mut impl Read) -> Result<usize, Unrea
     requires { WIDTH ≤ 8 }
 {
     let mut bytes = [0; 8];
-    source.read_exact(&mut bytes[..WIDTH])?;
+    fill(source, &mut bytes[..WIDTH])?;
     Ok(usize::from_le_bytes(bytes))
 }
 
@@ -56,7 +59,7 @@ pub fn list<'a, const WIDTH: usize, const EACH: usize>(
 {
     let count = number::<WIDTH>(source)?;
     let list = buffer.get_mut(..count).ok_or(Unread)?;
-    source.read_exact(list.as_flattened_mut())?;
+    fill(source, list.as_flattened_mut())?;
     Ok(list)
 }
 

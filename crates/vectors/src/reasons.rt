@@ -24,7 +24,8 @@ fn explained(file: &[u8], number: &[u8]) -> Option<Said> {
 
 // Whether this is printed about a record.
 fn prints(file: &[u8], number: &[u8], expected: &[u8]) -> bool {
-    let line = events::explained_line(explained(file, number));
+    let said = explained(file, number).map(|said| events::numbered(said));
+    let line = events::explained_line(said);
     line.as_bytes() == expected
 }
 
