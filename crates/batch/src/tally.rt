@@ -1,12 +1,12 @@
 // The active window, taken out of the record for a loop over many completions. Its counts stand in one array: counter
 // n's at place n, and those below threshold A, by kind, at 12 to 14. From place 15 on none is kept. Counts go on past
 // their top, where the record holds them.
-ghost use Rattle.std.specs.Prelude.{◌≡◌, ◌<◌, false, take, drop};
+ghost use Rattle.std.specs.Prelude.{◌≡◌, ◌<◌, false, [], ◌∷◌, take, drop};
 ghost use Rattle.monitor.specs.Calls.{only_if};
 ghost use Rattle.rules.specs.Counting.{held};
-ghost use Rattle.batch.specs.Tally.{bucket_place, code_of, kind_place, KindPlaces, held_all, AtMost, counter_at_place};
-ghost use Rattle.batch.specs.Tally.{bound_for, Bounds, at_most_loads, stamp_at, stamped_by, completed_by, with_active, Apart};
-ghost use Rattle.batch.specs.Tally.{count_place};
+ghost use Rattle.batch.specs.Tally.{code_of, kind_place, KindPlaces, count_place, held_all, AtMost};
+ghost use Rattle.batch.specs.Tally.{counter_at_place, bound_for, Bounds, at_most_loads, stamp_at, stamped_by, completed_by};
+ghost use Rattle.batch.specs.Tally.{with_active, Apart};
 
 use crate::parts::{Active, Stamp, Stamped};
 use logpage::Settings;
@@ -18,8 +18,8 @@ use window::{UNSET, Window};
 // The places that hold a counter.
 const COUNTERS: usize = 12;
 
-// The first place that holds a count below threshold A.
-const BELOW_A: usize = 12;
+// There are four buckets; this is the index, in a table of their places, of those without a bucket.
+const NO_BUCKET: u16 = 4;
 
 // The first place that holds no count.
 const NO_PLACE: u8 = 15;
@@ -27,17 +27,7 @@ const NO_PLACE: u8 = 15;
 // The bound where a completion can only count: every latency but the largest is below it.
 const NO_BOUND: u32 = u32::MAX;
 
-// The place of a bucket's first count; a latency without a bucket is below threshold A.
-pub fn bucket_place(bucket: Option<u16>) -> usize
-    ensures { result ≡ bucket_place bucket }
-{
-    match bucket {
-        Some(bucket) => 3 * usize::from(bucket),
-        None => BELOW_A,
-    }
-}
-
-// What a command's kind adds to that.
+// What a command's kind adds to the place of its bucket's first count.
 #[tactic(auto, unfolding(crate::specs::Tally::kind_place))]
 fn kind_place(enabled: bool, c: Command) -> u8
     ensures { result ≡ kind_place enabled c }
@@ -82,6 +72,18 @@ fn held(count: u64) -> u32
     u32::try_from(count).unwrap_or(u32::MAX)
 }
 
+// Counts of the record, to go on from. A loop, as in `held_all`: with the library's `map` a stretch of one record takes
+// twice the time.
+fn widened(counts: [u32; 28]) -> [u64; 28]
+    ensures { result ≡ counts }
+{
+    let mut wide = [0; 28];
+    for (place, count) in wide.iter_mut().enumerate() {
+        *count = u64::from(counts[place]);
+    }
+    wide
+}
+
 // Counts below threshold A and counters in one array.
 fn joined(below: [u32; 3], counters: [u32; 12]) -> [u64; 28]
     ensures below { take 3 (drop 12 (held_all result)) ≡ below }
@@ -89,16 +91,20 @@ fn joined(below: [u32; 3], counters: [u32; 12]) -> [u64; 28]
     ensures top { AtMost u32.MAX result }
 {
     let mut counts = [0; 28];
-    counts[..12].copy_from_slice(&counters);
-    counts[12..15].copy_from_slice(&below);
-    counts.map(u64::from)
+    counts[..COUNTERS].copy_from_slice(&counters);
+    counts[BELOW_A..BELOW_A + 3].copy_from_slice(&below);
+    widened(counts)
 }
 
 // The counts of such an array as the record holds them.
 fn held_all(counts: [u64; 28]) -> [u32; 28]
     ensures { result ≡ held_all counts }
 {
-    counts.map(held)
+    let mut all = [0; 28];
+    for (place, count) in all.iter_mut().enumerate() {
+        *count = held(counts[place]);
+    }
+    all
 }
 
 // The counter of a place; 0 for a place that is no counter's.
@@ -170,9 +176,9 @@ pub fn with_active(mut m: Monitor, a: Active) -> Monitor
 {
     let counts = held_all(a.counts);
     let mut below_a = [0; 3];
-    below_a.copy_from_slice(&counts[12..15]);
+    below_a.copy_from_slice(&counts[BELOW_A..BELOW_A + 3]);
     let mut counters = [0; 12];
-    counters.copy_from_slice(&counts[..12]);
+    counters.copy_from_slice(&counts[..COUNTERS]);
     let stamps = a.stamps;
     let latencies = a.latencies;
     let units = a.units;
@@ -228,11 +234,14 @@ pub fn stamped(m: Monitor, place: usize, c: Command, stamp: Stamp) -> Option<Sta
     Some(Stamped { stamp, bound })
 }
 
-// The places of counts under settings.
+// The places of counts under settings: each bucket's first, and last that of the counts below threshold A; and what a
+// kind adds. Tables have no branch that a processor could guess wrong.
 #[derive(Clone, Copy)]
 pub struct Places {
     settings: Settings,
+    buckets: [usize; 5],
     kinds: [u8; 512],
+    ghost by_bucket: { buckets ≡ 0 ∷ 3 ∷ 6 ∷ 9 ∷ 12 ∷ [] },
     ghost by_kind: { KindPlaces settings.enabled kinds },
 }
 
@@ -241,17 +250,21 @@ impl Places {
         ensures { result.settings ≡ settings }
     {
         let kinds = kind_places(settings.enabled);
-        Places { settings, kinds }
+        Places {
+            settings,
+            buckets: [0, 3, 6, 9, 12],
+            kinds,
+        }
     }
 
     // The place of a completion's count.
-    #[tactic(auto, using(crate::proofs::tally::Laws::few_places))]
     pub fn place(&self, c: Command) -> usize
         ensures place { result ≡ count_place self.now.settings c }
         ensures few { result < 28 }
     {
         let thresholds = self.settings.thresholds;
-        bucket_place(c.bucket(thresholds)) + usize::from(self.kinds[code(c)])
+        let bucket = c.bucket(thresholds).unwrap_or(NO_BUCKET);
+        self.buckets[usize::from(bucket)] + usize::from(self.kinds[code(c)])
     }
 }
 
@@ -269,9 +282,9 @@ impl Active {
         }
     }
 
-    #[tactic(auto, unfolding(crate::specs::Tally::completed_by))]
     // A completion at a place. False where it does more than count there and load its counter's stamp: then nothing is
     // done.
+    #[tactic(auto, unfolding(crate::specs::Tally::completed_by))]
     pub fn completion(&mut self, m: &Monitor, place: usize, c: Command) -> bool
         requires place { place < 28 }
         requires room { AtMost 18446744073709551614 self.old.counts }

@@ -3,9 +3,8 @@
 use Rattle.std.specs.Prelude.{ℕ, ◌-◌, ◌*◌, List, [], ◌∷◌, length, take, drop, nat_lt}
 use Rattle.std.specs.Prelude.{Option, None, Some, Result, Ok, Err}
 use Rattle.endian.specs.Loads.{number}
-use Rattle.rules.specs.declared.commands.Command.{Command}
 use Rattle.monitor.specs.declared.record.Monitor.{Monitor}
-use Rattle.monitor.specs.Calls.{Call, found, only_if, play_from, command_in}
+use Rattle.monitor.specs.Calls.{found, only_if, play_from}
 use Rattle.monitor.specs.declared.reasons.Reason.{Reason}
 use Rattle.monitor.specs.Reasons.{reason_of, says_reason}
 use Rattle.monitor.specs.Record.{new_monitor}
@@ -13,7 +12,7 @@ use Rattle.text.specs.Lines.{number_line, refused_line}
 use Rattle.refusals.specs.declared.Refusal.{Refusal}
 use Rattle.refusals.specs.Refusals.{number_of}
 use Rattle.events.specs.declared.explain.Question.{Question}
-use Rattle.records.specs.Records.{call_of}
+use Rattle.records.specs.Records.{completion_at}
 use Rattle.events.specs.Files.{record_at, whole_records, history_of}
 
 pub data Said : Type 0 where
@@ -25,10 +24,6 @@ pub data Said : Type 0 where
 -- 02, Ticket 5, Turned away
 abbrev pub not_a_completion : Said
 not_a_completion = refused 16
-
--- the completion that a record stands for; a record that 11 turns away stands for none
-unfoldable pub completion_at : List ℕ → Option Command
-completion_at r = found None (λ (c : Call). command_in c) (call_of r)
 
 -- what is said of a record, by the monitor before it
 unfoldable pub record_said : Monitor → List ℕ → Said

@@ -6,7 +6,7 @@ ghost use Rattle.events.specs.Explain.{says, says_said};
 
 use crate::files;
 use monitor::{Monitor, Reason, Refusal};
-use records::{Event, RECORD};
+use records::RECORD;
 use text::Line;
 
 // The bytes of a record's number.
@@ -42,13 +42,13 @@ fn number_said(n: usize) -> Option<Said>
 }
 
 // What is said of a record, by the monitor before it.
-#[tactic(auto, unfolding(crate::specs::Explain::record_said, crate::specs::Explain::completion_at))]
+#[tactic(auto, unfolding(crate::specs::Explain::record_said))]
 fn record_said(m: Monitor, r: &[u8]) -> Said
     ensures { says_said result ≡ record_said m r.now }
 {
-    match Event::read(r) {
-        Ok(Event::Completion(c)) => Ok(m.reason(c)),
-        _ => Err(Refusal::NotACompletion),
+    match records::completion(r) {
+        Some(c) => Ok(m.reason(c)),
+        None => Err(Refusal::NotACompletion),
     }
 }
 

@@ -50,8 +50,10 @@ impl Parts {
         ensures accepted { result ≡ true → record_refusal r.now ≡ None }
         ensures next { result ≡ true → so_far self.new ≡ after_record (so_far self.old) r.now }
     {
+        if let Some(c) = records::completion(r) {
+            return self.active.completion(&self.monitor, places.place(c), c);
+        }
         match Event::read(r) {
-            Ok(Event::Completion(c)) => self.active.completion(&self.monitor, places.place(c), c),
             Ok(event) => match timed(self.monitor, event) {
                 Some(time) => {
                     self.monitor = passing::with_time(self.monitor, time);

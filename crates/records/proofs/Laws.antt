@@ -1,9 +1,13 @@
 -- Laws of one record.
 use mathlib.Core.Path.{◌≡◌, refl, sym, ap, ◌∙◌}
-use mathlib.Core.Bool.{Bool, true, false, not, ◌||◌, ◌&&◌, or_assoc}
+use mathlib.Core.Bool.{Bool, true, false, cond, not, ◌||◌, ◌&&◌, or_assoc}
 use mathlib.Core.List.{List, [], ◌∷◌, ◌++◌}
 use native.Mathlib.Omega.{arith}
-use lib.Dec.{eqb}
+use lib.Dec.{eqb, leb}
+use Rattle.std.specs.Option.{option_map}
+use Rattle.monitor.proofs.Laws.{nothing-there}
+use Rattle.monitor.specs.Calls.{command_in}
+use Rattle.records.specs.Records.{attribute, command_of, completion_of, elapsed_of, clock_of, settings_bytes, command_of_call, completion_at}
 use lib.Seq.{sets, sets-eq, take_all, get_or-drop}
 use borrow.Author.Rules.{part_to_end}
 use Rattle.endian.specs.Loads.{number}
@@ -34,6 +38,52 @@ of-sixteen r sixteen = rw (eq-eqb (length r) 16 sixteen)
 pub not-sixteen : (r : List ℕ) → (length r ≡ 16 → ⊥) → call_of r ≡ None
 unfolding call_of
 not-sixteen r n = rw (ne_eqb (length r) 16 n)
+
+-- a call that brings a command is its completion
+pub of_command : (o : Option Call) (c : Command) → command_of_call o ≡ Some c → Some (completion c) ≡ o
+of_command None c e = absurd (nothing-there c e)
+of_command (Some (settings s)) c e = absurd (nothing-there c e)
+of_command (Some (completion d)) c e = ap (option_map completion) (sym e)
+of_command (Some (elapsed ms)) c e = absurd (nothing-there c e)
+of_command (Some (clock value)) c e = absurd (nothing-there c e)
+of_command (Some power_up) c e = absurd (nothing-there c e)
+of_command (Some (page n)) c e = absurd (nothing-there c e)
+of_command (Some (settings_back n)) c e = absurd (nothing-there c e)
+of_command (Some (below_a w)) c e = absurd (nothing-there c e)
+
+pub completion-call : (r : List ℕ) (c : Command) → completion_at r ≡ Some c → call_of r ≡ Some (completion c)
+unfolding completion_at
+completion-call r c e = sym (of_command (call_of r) c e)
+
+-- and a record of kind 2 that brings none stands for no call
+pub no_command : (r : List ℕ) → command_of_call (completion_of r) ≡ None → None ≡ completion_of r
+unfolding completion_of
+no_command r = by (leb (attribute r) 1) (any_set (unnamed 3 4 8 r))
+  where
+    by :
+        (few set : Bool) →
+        command_of_call (cond few (cond set None (Some (completion (command_of r)))) None) ≡ None →
+        None ≡ cond few (cond set None (Some (completion (command_of r)))) None
+    by true true e = refl
+    by true false e = absurd (nothing-there (command_of r) (sym e))
+    by false set e = refl
+
+-- no other kind brings one
+none-in : (t : Bool) (a b : Option Call) → None ≡ command_of_call a → None ≡ command_of_call b → None ≡ command_of_call (cond t a b)
+none-in true a b p q = p
+none-in false a b p q = q
+
+if-set : (bytes : List ℕ) (c : Call) → None ≡ command_in c → None ≡ command_of_call (cond (any_set bytes) None (Some c))
+if-set bytes c p = none-in (any_set bytes) None (Some c) refl p
+
+pub not_two : (r : List ℕ) (k : ℕ) → (k ≡ 2 → ⊥) → None ≡ command_of_call (call_of_kind k r)
+unfolding call_of_kind
+not_two r k other =
+    rw (ne_eqb k 2 other)
+    (none-in (eqb k 1) _ _ (if-set (unnamed 14 16 16 r) (settings (settings_bytes r)) refl)
+    (none-in (eqb k 3) _ _ (if-set (unnamed 1 4 8 r) (elapsed (elapsed_of r)) refl)
+    (none-in (eqb k 4) _ _ (if-set (unnamed 1 4 12 r) (clock (clock_of r)) refl)
+    (none-in (eqb k 5) _ _ (if-set (unnamed 1 8 8 r) power_up refl) refl))))
 
 -- of two lists of bytes
 pub any-of-both : (a b : List ℕ) → any_set (a ++ b) ≡ (any_set a || any_set b)

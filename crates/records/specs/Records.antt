@@ -7,7 +7,7 @@ use Rattle.rules.specs.declared.commands.Command.{Command}
 use Rattle.monitor.specs.declared.record.Monitor.{Monitor}
 use Rattle.rules.specs.Answers.{CallAnswer, refused, done, not_counted, counted, ended}
 use Rattle.monitor.specs.Calls.{Call, settings, completion, elapsed, clock, power_up, play_from, refusal_of}
-use Rattle.monitor.specs.Calls.{answer_of, found, and_then}
+use Rattle.monitor.specs.Calls.{answer_of, command_in, found, and_then}
 use Rattle.records.specs.declared.answers.RecordAnswer.{RecordAnswer}
 use Rattle.records.specs.declared.answers.RecordAnswer.TheVariants as answer
 use Rattle.records.specs.declared.event.Event.{Event}
@@ -68,6 +68,13 @@ call_of_kind kind r =
 -- the call that a record stands for, if any
 unfoldable pub call_of : List ℕ → Option Call
 call_of r = cond (eqb (length r) 16) (call_of_kind (record_kind r) r) None
+
+-- the command of a call, if it is a completion; and that of a record. One that 11 turns away stands for none
+abbrev pub command_of_call : Option Call → Option Command
+command_of_call call = found None (λ (c : Call). command_in c) call
+
+unfoldable pub completion_at : List ℕ → Option Command
+completion_at r = command_of_call (call_of r)
 
 -- the call of an event that was read, or none
 abbrev pub call_in : Event → Call

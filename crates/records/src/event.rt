@@ -3,6 +3,7 @@ ghost use Rattle.std.specs.Prelude.{◌≡◌, not, ◌+◌, ◌≤◌, IfErr};
 ghost use Rattle.std.specs.Result.{result_ok};
 ghost use Rattle.endian.specs.Bytes.{any_set};
 ghost use Rattle.records.specs.Records.{unnamed, part, record_kind, elapsed_of, command_of, call_of_kind, call_of, says_event};
+ghost use Rattle.records.specs.Records.{command_of_call, completion_at};
 
 use monitor::{Command, Refusal};
 
@@ -68,17 +69,42 @@ fn command(r: &[u8; 16]) -> Command
     }
 }
 
+// The command of 16 bytes that are a completion's record. Nearly all records are such, so this is asked first.
+#[inline(always)]
+#[tactic(auto, using(crate::proofs::Laws::not_two), unfolding(crate::specs::Records::call_of_kind, crate::specs::Records::completion_of))]
+fn completed(r: &[u8; 16]) -> Option<Command>
+    ensures { result ≡ command_of_call (call_of_kind (record_kind r.now) r.now) }
+{
+    let kind = r[0];
+    match kind {
+        COMPLETION if r[2] <= 1 && clear(r, 3, 4, 8) => Some(command(r)),
+        _ => None,
+    }
+}
+
+// The command of a completion's record.
+#[inline(always)]
+pub fn completion(r: &[u8]) -> Option<Command>
+    ensures { result ≡ completion_at r.now }
+{
+    match <&[u8; 16]>::try_from(r) {
+        Ok(r) => completed(r),
+        Err(_) => None,
+    }
+}
+
 impl Event {
     // The event of 16 bytes, by their kind; the bytes that a kind leaves unnamed are zero.
-    #[tactic(auto, unfolding(crate::specs::Records::call_of_kind, crate::specs::Records::completion_of, crate::specs::Records::settings_bytes, crate::specs::Records::elapsed_of, crate::specs::Records::clock_of))]
-    #[inline(always)]
+    #[tactic(auto, using(crate::proofs::Laws::of_command, crate::proofs::Laws::no_command), unfolding(crate::specs::Records::call_of_kind, crate::specs::Records::settings_bytes, crate::specs::Records::elapsed_of, crate::specs::Records::clock_of))]
     fn of(r: &[u8; 16]) -> Option<Event>
         ensures { says_event result ≡ call_of_kind (record_kind r.now) r.now }
     {
+        if let Some(c) = completed(r) {
+            return Some(Event::Completion(c));
+        }
         let kind = r[0];
         match kind {
             SETTINGS if clear(r, 14, 16, 16) => Some(Event::Settings(settings(r))),
-            COMPLETION if r[2] <= 1 && clear(r, 3, 4, 8) => Some(Event::Completion(command(r))),
             ELAPSED if clear(r, 1, 4, 8) => Some(Event::Elapsed(time(r))),
             CLOCK if clear(r, 1, 4, 12) => Some(Event::Clock(endian::load(&r[4..12]))),
             POWER_UP if clear(r, 1, 8, 8) => Some(Event::PowerUp),
@@ -87,7 +113,6 @@ impl Event {
     }
 
     // The event of a record. What is not 16 bytes, or stands for no call, is none.
-    #[inline(always)]
     pub fn read(r: &[u8]) -> Result<Event, Refusal>
         ensures event { says_event (result_ok result) ≡ call_of r.now }
         ensures refusal { IfErr result (λ e. e ≡ Refusal.UnknownRecord) }

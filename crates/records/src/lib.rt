@@ -7,4 +7,4 @@ mod event;
 
 pub use answers::RecordAnswer;
 pub use calls::apply;
-pub use event::{Event, RECORD};
+pub use event::{Event, RECORD, completion};

@@ -13,6 +13,7 @@ use Rattle.std.proofs.lemmas.List.{take-append-le, drop-append-le, take_all, dro
 use lib.Seq.{get_or-append_right, get_or-drop}
 use Rattle.logpage.specs.declared.fields.Settings.{Settings}
 use Rattle.rules.specs.declared.commands.Command.{Command}
+use Rattle.window.proofs.Table.{by-rule}
 use Rattle.rules.proofs.commands.Laws.{bucket-few, kind-few}
 use Rattle.rules.specs.Commands.{kind_of, bucket_of}
 use Rattle.rules.specs.Counting.{held}
@@ -80,6 +81,22 @@ kind_place_few true c = by (kind_of c) refl
     by : (o : Option ℕ) → kind_of c ≡ o → unwrap_or o 15 ≤ 15
     by (Some k) e = omega (arith, kind-few c k e)
     by None e = omega arith
+
+-- the table of the buckets' places; below threshold A none is found, and the last place is taken
+pub bucket_in_table :
+    (thresholds : List ℕ) (c : Command) →
+    (unwrap_or (bucket_of thresholds c) 4 < 5)
+    × (get_or (0 ∷ 3 ∷ 6 ∷ 9 ∷ 12 ∷ []) (unwrap_or (bucket_of thresholds c) 4) 0 ≡
+    bucket_place (bucket_of thresholds c))
+bucket_in_table thresholds c = by (bucket_of thresholds c) refl
+  where
+    by :
+        (o : Option ℕ) →
+        bucket_of thresholds c ≡ o →
+        (unwrap_or o 4 < 5) × (get_or (0 ∷ 3 ∷ 6 ∷ 9 ∷ 12 ∷ []) (unwrap_or o 4) 0 ≡ bucket_place o)
+    by None e = (omega arith, refl)
+    by (Some b) e =
+        let few = bucket-few thresholds c b e in (omega arith, by-rule (λ (n : ℕ). 3 * n) 5 b (omega (arith, few)))
 
 pub few_places : (s : Settings) (c : Command) → count_place s c < 28
 few_places s c = omega (arith, bucket_place_few s.thresholds c, kind_place_few s.enabled c)

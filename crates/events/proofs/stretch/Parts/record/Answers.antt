@@ -1,56 +1,56 @@
 -- `Parts::record`: a completion, at its place; the clock and the timer.
-use Rattle.std.proofs.Common.{◌≡◌, ◌+◌, Bool, true, false, true≢false, sym, refl, ap, ◌∙◌, arith}
+use Rattle.std.proofs.Common.{◌≡◌, ◌+◌, Bool, true, false, true≢false, sym, refl, arith}
 use Rattle.std.specs.Prelude.{Some}
-use Rattle.records.specs.Records.{call_in}
+use Rattle.records.proofs.Laws.{completion-call}
 use Rattle.batch.specs.Tally.{AtMost, count_place, completed_by}
 use Rattle.batch.proofs.Counts.{room-for-more}
 use Rattle.events.proofs.stretch.Laws.{Taken, completed, timed}
-use Rattle.events.proofs.stretch.Parts.record.Goals.{After-completion}
+use Rattle.events.proofs.stretch.Parts.record.Goals.{After-completion-in-Some}
 use Rattle.events.proofs.stretch.Parts.record.Goals as goal
 
 -- what a completion leaves of the active window, where it is taken
 left :
-    (c : goal.After-completion) →
-    c.completion.result ≡ true →
-    completed_by c.args.self.now.monitor c.args.self.now.active (count_place c.args.places.now.settings c.in-Ok-Completion.c)
-    c.in-Ok-Completion.c ≡
-    Some c.completion.new.self
-left c h = rw (← c.place.ensures.place) (sym (rw h at c.completion.ensures.next))
+    (c : goal.After-completion-in-Some) →
+    c.completion-in-Some.result ≡ true →
+    completed_by c.args.self.now.monitor c.args.self.now.active (count_place c.args.places.now.settings c.in-Some.c)
+    c.in-Some.c ≡
+    Some c.completion-in-Some.new.self
+left c h = rw (← c.place.ensures.place) (sym (rw h at c.completion-in-Some.ensures.next))
 
 took :
-    (c : goal.After-completion) →
-    c.completion.result ≡ true →
+    (c : goal.After-completion-in-Some) →
+    c.completion-in-Some.result ≡ true →
     Taken c.args.places.now.settings c.args.self.now
-    (record { monitor = c.args.self.now.monitor; active = c.completion.new.self })
+    (record { monitor = c.args.self.now.monitor; active = c.completion-in-Some.new.self })
     c.args.r.now
 took c h =
-    completed _ _ c.requires.steady _ c.in-Ok-Completion.c _
-    (sym c.in-Ok-Completion.ensures.event ∙ ap (λ e. Some (call_in e)) c.in-Ok-Completion.field-0-is)
+    completed _ _ c.requires.steady _ c.in-Some.c _
+    (completion-call c.args.r.now c.in-Some.c (sym c.in-Some.ensures))
     (left c h)
 
-pub returns-in-Ok-Completion-clause-steady : goal.returns-in-Ok-Completion-clause-steady
-returns-in-Ok-Completion-clause-steady c h = (took (goal.at.returns-in-Ok-Completion-clause-steady c).After-completion h).steady
+pub returns-in-Some-clause-steady : goal.returns-in-Some-clause-steady
+returns-in-Some-clause-steady c h = (took (goal.at.returns-in-Some-clause-steady c).After-completion-in-Some h).steady
 
-pub returns-in-Ok-Completion-clause-accepted : goal.returns-in-Ok-Completion-clause-accepted
-returns-in-Ok-Completion-clause-accepted c h = (took (goal.at.returns-in-Ok-Completion-clause-accepted c).After-completion h).accepted
+pub returns-in-Some-clause-accepted : goal.returns-in-Some-clause-accepted
+returns-in-Some-clause-accepted c h = (took (goal.at.returns-in-Some-clause-accepted c).After-completion-in-Some h).accepted
 
-pub returns-in-Ok-Completion-clause-next : goal.returns-in-Ok-Completion-clause-next
-returns-in-Ok-Completion-clause-next c h = (took (goal.at.returns-in-Ok-Completion-clause-next c).After-completion h).same
+pub returns-in-Some-clause-next : goal.returns-in-Some-clause-next
+returns-in-Some-clause-next c h = (took (goal.at.returns-in-Some-clause-next c).After-completion-in-Some h).same
 
-pub returns-in-Ok-Completion-clause-room : goal.returns-in-Ok-Completion-clause-room
-returns-in-Ok-Completion-clause-room c top few = by c.completion.result refl
+pub returns-in-Some-clause-room : goal.returns-in-Some-clause-room
+returns-in-Some-clause-room c top few = by c.completion-in-Some.result refl
   where
-    by : (t : Bool) → c.completion.result ≡ t → AtMost (top + 1) c.completion.new.self.counts
+    by : (t : Bool) → c.completion-in-Some.result ≡ t → AtMost (top + 1) c.completion-in-Some.new.self.counts
     by true h =
-        room-for-more _ _ _ _ top c.in-Ok-Completion.c
-        (left (goal.at.returns-in-Ok-Completion-clause-room c).After-completion h)
+        room-for-more _ _ _ _ top c.in-Some.c
+        (left (goal.at.returns-in-Some-clause-room c).After-completion-in-Some h)
         few
-    by false h = λ place. rw (c.completion.ensures.kept h) (omega (arith, few place))
+    by false h = λ place. rw (c.completion-in-Some.ensures.kept h) (omega (arith, few place))
 
-pub returns-in-Some : goal.returns-in-Some
-returns-in-Some c =
+pub returns-in-Some-timed : goal.returns-in-Some-timed
+returns-in-Some-timed c =
     let x =
-    timed _ _ c.requires.steady _ _ c.in-Some.time (sym c.in-Ok.ensures.event) (sym c.in-Some.ensures)
+    timed _ _ c.requires.steady _ _ c.in-Some-timed.time (sym c.in-Ok.ensures.event) (sym c.in-Some-timed.ensures)
     in
     record {
       kept = λ e. absurd (true≢false e);
