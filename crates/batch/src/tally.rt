@@ -18,10 +18,13 @@ use window::{UNSET, Window};
 // The places that hold a counter.
 const COUNTERS: usize = 12;
 
-// There are four buckets; this is the index, in a table of their places, of those without a bucket.
+// The first place that holds a count below threshold A.
+const BELOW_A: usize = 12;
+
+// There are four buckets; behind them a table of their places has that of a latency without a bucket.
 const NO_BUCKET: u16 = 4;
 
-// The first place that holds no count.
+// The first place that holds no count. Numbers and no Options, since they are added and compared for each record.
 const NO_PLACE: u8 = 15;
 
 // The bound where a completion can only count: every latency but the largest is below it.

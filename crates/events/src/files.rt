@@ -51,7 +51,7 @@ pub fn run(m: Monitor, s: &[u8]) -> Stop
 }
 
 // All whole records of a slice; those that are refused are passed over. A turn goes on behind the record that a run
-// stopped at.
+// stopped at, by its place, as where lines are told (`blocks`).
 pub fn replay(m: Monitor, s: &[u8]) -> Monitor
     ensures { result ≡ play_from m (history_of s.now) }
 {

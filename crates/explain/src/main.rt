@@ -31,7 +31,7 @@ fn advance(q: Question, block: &[u8]) -> Turn
     }
 }
 
-// Block after block, until something is said or the file ends.
+// Block after block, until something is said or the file ends: the last block says so.
 fn search<R: Read>(q: Question, input: &mut R) -> io::Result<Option<Said>>
     ensures ends { IfOk result (λ said. (last : Question) × (block : List ℕ) × (says said ≡ part_said last block)
         × (goes_on (length block) (is_none (part_said last block)) ≡ false)) }

@@ -101,7 +101,7 @@ pub extern "C" fn latency_monitor_settings_back(m: &Monitor, s: &mut [u8]) -> u8
     answers::refusal(m.settings_back(s))
 }
 
-// The enabled completions below threshold A in the active window.
+// The enabled completions below threshold A in the active window: a function for each window, since no enum crosses to C.
 #[unsafe(no_mangle)]
 pub extern "C" fn latency_monitor_active_below_a(m: &Monitor) -> PlainBelowA
     ensures { result ≡ as_below_a (counts_below_a Active m.now) }

@@ -81,7 +81,7 @@ fn write_tail(page: &mut [u8], trigger: u16, debug: DebugLog)
 }
 
 impl LogPage {
-    // Writes the page, if the buffer has its 512 bytes. Says whether it has.
+    // Writes the page, if the buffer has its 512 bytes. Says whether it has; what that refuses is the caller's to say.
     pub fn write(self, page: &mut [u8]) -> bool
         ensures written { result ≡ eqb (length page.old) 512 }
         ensures bytes { page.new ≡ cond (eqb (length page.old) 512) (page_bytes self) page.old }

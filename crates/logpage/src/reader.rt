@@ -14,7 +14,7 @@ use refusals::Refusal;
 use window::{UNSET, Window, block_reader};
 
 // What a page shows. The page has the debug log's counter as one set bit; its number stands beside, 0 where none is
-// held.
+// held: a struct of the C header, which has no Option.
 #[repr(C)]
 #[derive(Clone, Copy)]
 pub struct Reading {

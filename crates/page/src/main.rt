@@ -61,7 +61,8 @@ fn advance<R: Read, W: Write>(
     }
 }
 
-// Block after block, each from the records so far, up to the last one.
+// Block after block, each from the records so far, up to the last one: that one says so, and nothing is counted but the
+// records.
 #[tactic(auto, unfolding(crate::specs::Progress::nothing_read))]
 fn read_all<R: Read, W: Write>(input: &mut R, output: &mut W) -> Result<Last, Failure>
     ensures { IfOk result (λ last. goes_on last.n true ≡ true → 2 ^ 52 ≤ last.progress.next) }

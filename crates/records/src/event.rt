@@ -10,6 +10,7 @@ use monitor::{Command, Refusal};
 // The bytes of a record.
 pub const RECORD: usize = 16;
 
+// The kinds of records, as the file has them.
 const SETTINGS: u8 = 1;
 
 const COMPLETION: u8 = 2;

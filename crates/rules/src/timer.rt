@@ -32,7 +32,7 @@ impl Tick {
     }
 }
 
-// The timer after elapsed time, which it measures while enabled.
+// The timer after elapsed time, which it measures while enabled. Its two numbers stand apart, as in the record.
 pub fn ticked(enabled: bool, threshold: u16, timer: u16, partial: u32, ms: u32) -> Tick
     requires { ms ≤ 300000 }
     ensures { result ≡ ticked enabled threshold timer partial ms }

@@ -37,7 +37,8 @@ impl Filled {
     }
 }
 
-// Reads until the buffer is full, the input ends or a read fails. A buffer that is full is all that was asked for.
+// Reads until the buffer is full, the input ends or a read fails. A buffer that is full is all that was asked for. The
+// loop is no `for`: a turn goes on by as many bytes as a read gives.
 pub fn fill<R: Read>(input: &mut R, s: &mut [u8]) -> Filled
     ensures within { result.n ≤ length s.old }
     ensures failed { IsSome result.failed → result.n < length s.old }

@@ -56,7 +56,7 @@ pub(crate) fn refused<const N: usize>(numbers: &[u64]) -> ArrayString<N>
     line
 }
 
-// The refused line of a record: its number, and the refusal.
+// The refused line of a record: its number, and the refusal, of which any number has a line.
 pub fn refused_record(index: u64, refusal: u64) -> Line
     ensures { result.bytes ≡ refused_line (index ∷ refusal ∷ []) }
 {

@@ -28,7 +28,7 @@ impl From<io::Error> for Unread {
     }
 }
 
-// What a call is expected to answer: bytes, or the number that it is refused by.
+// What a call is expected to answer: bytes, or the number that it is refused by, as the file has it.
 pub type Expected<const N: usize> = Result<[u8; N], u8>;
 
 // The next bytes.

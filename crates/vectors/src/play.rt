@@ -51,7 +51,8 @@ pub struct Events<'a> {
     pub presets: &'a [[u8; PRESET]],
 }
 
-// What a file leaves of a new monitor, and whether it was told or answered what was expected.
+// What a file leaves of a new monitor, and whether it was told or answered what was expected: both, since the monitor is
+// compared further where it was not.
 #[derive(Clone, Copy)]
 pub struct Played {
     pub monitor: Monitor,

@@ -45,6 +45,7 @@ fn put_bucket(bucket: &mut [u8], deallocate: u32, write: u32, read: u32)
     endian::put_fields(bucket, &BUCKET_WIDTHS, &values);
 }
 
+// By index: nothing is known to the check of what the parts of a lent slice end as.
 fn put_counters(block: &mut [u8], counters: [u32; 12])
     requires { 64 ≤ length block.old }
     ensures { block.new ≡ sets block.old 0 (column 4 (buckets counters 4)) }
@@ -86,7 +87,7 @@ fn unit_bits(units: [bool; 12]) -> u64
     mask
 }
 
-// Fills a block, whatever it held.
+// Fills a block, whatever it held. A slice of 186 bytes and no array, here and in the reader: parts of a page are lent.
 fn fill(block: &mut [u8], w: Window)
     requires { length block.old ≡ 186 }
     ensures { block.new ≡ block_bytes w }

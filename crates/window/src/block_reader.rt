@@ -60,6 +60,7 @@ fn counter_fits(counter: u32, stamp: u64, latency: u16, unit: bool) -> bool
     (stamp < CLOCK_END) | ((stamp == UNSET) & (counter == 0) & (latency == 0) & !unit)
 }
 
+// By index, over four arrays at once.
 fn window_fits(w: Window) -> bool
     ensures { result ≡ window_fits w }
 {

@@ -2,12 +2,12 @@
 ghost use Rattle.std.specs.Prelude.{◌≡◌};
 ghost use Rattle.window.specs.Fields.{window_of, empty_window};
 
-// A latency stamp that is not set.
+// A latency stamp that is not set: no Option, since record and page have it as this number.
 pub const UNSET: u64 = 0xffff_ffff_ffff_ffff;
 
 // What a window shows, for each of the twelve counters (document 01: pairs) by its number: the counter (count), the
 // latency stamp, the measured latency in ms (shown latency), and the stamp units, set where the host had set the clock
-// (clock mark).
+// (clock mark). Four arrays, as C has them.
 #[repr(C)]
 #[derive(Clone, Copy)]
 pub struct Window {

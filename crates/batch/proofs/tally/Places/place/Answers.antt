@@ -1,11 +1,7 @@
 -- `Places::place`: what the two tables have.
-use mathlib.Core.Path.{◌≡◌, ◌∙◌, ap}
-use mathlib.Core.List.{List, [], ◌∷◌}
-use native.Mathlib.Omega.{arith}
-use Prim.Native.Nat.{ℕ, ◌+◌, ◌<◌}
+use mathlib.Core.Path.{◌≡◌}
+use Prim.Native.Nat.{◌+◌}
 use lib.ListN.{get_or}
-use Rattle.std.specs.Prelude.{unwrap_or}
-use Rattle.rules.specs.Commands.{bucket_of}
 use Rattle.batch.specs.Tally.{count_place}
 use Rattle.batch.proofs.tally.Laws.{bucket_in_table, few_places}
 use Rattle.batch.proofs.tally.Places.place.Goals.{After-from-2}
