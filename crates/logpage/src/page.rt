@@ -1,9 +1,11 @@
 // Log page C3h, written in the order of its bytes.
-ghost use Rattle.std.specs.Prelude.{cond, ◌≡◌, eqb, length};
+ghost use Rattle.std.specs.Prelude.{cond, ◌≡◌, eqb, length, Some, None};
 ghost use Rattle.std.proofs.lemmas.List.Edits.{sets};
+ghost use Rattle.refusals.specs.Refusals.{refusal_in};
 ghost use Rattle.logpage.specs.Page.{head_bytes, windows_bytes, tail_bytes, page_bytes};
 
 use crate::fields::{DebugLog, Settings};
+use refusals::Refusal;
 use window::{Window, block};
 
 // The fields of bytes 0 to 12, of 448 to 464, and of 494 to 511, by their widths: for the writer and the reader.
@@ -81,18 +83,18 @@ fn write_tail(page: &mut [u8], trigger: u16, debug: DebugLog)
 }
 
 impl LogPage {
-    // Writes the page, if the buffer has its 512 bytes. Says whether it has; what that refuses is the caller's to say.
-    pub fn write(self, page: &mut [u8]) -> bool
-        ensures written { result ≡ eqb (length page.old) 512 }
+    // Writes the page, if the buffer has its 512 bytes.
+    pub fn write(self, page: &mut [u8]) -> Result<(), Refusal>
+        ensures written { refusal_in result ≡ cond (eqb (length page.old) 512) None (Some 9) }
         ensures bytes { page.new ≡ cond (eqb (length page.old) 512) (page_bytes self) page.old }
     {
         if page.len() == 512 {
             write_head(page, self.settings, self.timer);
             write_windows(page, self.active_window, self.static_window);
             write_tail(page, self.settings.trigger, self.debug);
-            true
+            Ok(())
         } else {
-            false
+            Err(Refusal::PageLength)
         }
     }
 }

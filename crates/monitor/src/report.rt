@@ -27,11 +27,7 @@ impl Monitor {
             static_window,
             debug,
         };
-        if fields.write(page) {
-            Ok(())
-        } else {
-            Err(Refusal::PageLength)
-        }
+        fields.write(page)
     }
 
     // The settings in force, into a buffer of 4,096 bytes.

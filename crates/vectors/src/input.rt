@@ -2,8 +2,8 @@
 ghost use Rattle.std.specs.Prelude.{◌≤◌};
 
 use std::error::Error;
-use std::io::Read;
 use std::fmt;
+use std::io::Read;
 
 // The bytes of the longest event file of a vector, and of any other list.
 pub const LONGEST_FILE: usize = 131_072;

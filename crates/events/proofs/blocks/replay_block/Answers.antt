@@ -9,6 +9,6 @@ unfolding with_room
 returns c =
     let room = 16 * (length c.args.out.now / 50) in
     let part : take c.min.result c.args.s.now ≡ take room c.args.s.now =
-        rw c.min.ensures (take_min room c.args.s.now)
+    rw c.min.ensures (take_min room c.args.s.now)
     in
     rw part at c.replay_lines.ensures
