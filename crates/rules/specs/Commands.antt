@@ -57,6 +57,11 @@ counter_at (Some b) (Some k) = Some (3 * b + k)
 counter_at (Some b) None = None
 counter_at None k = None
 
+-- the counter as a number: twelve is that of none
+abbrev pub counter_number : Option ℕ → ℕ
+counter_number (Some n) = n
+counter_number None = 12
+
 -- 01, A completion: whether a latency is long enough to count at all
 abbrev pub reaches_a : List ℕ → Command → Bool
 reaches_a thresholds c = reaches c.latency (get_or thresholds 0 0)
