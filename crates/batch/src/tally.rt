@@ -36,7 +36,7 @@ fn kind_place(enabled: bool, c: Command) -> u8
     ensures { result ≡ kind_place enabled c }
 {
     match c.kind() {
-        Some(kind) if enabled => u16::from(kind) as u8,
+        Some(kind) if enabled => kind as u8,
         _ => NO_PLACE,
     }
 }

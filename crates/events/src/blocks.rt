@@ -9,8 +9,9 @@ use crate::files;
 use monitor::{Monitor, Refusal};
 use text::{LINE, Line};
 
-// What a block leaves: the monitor, and the lines of refused records in the first `len` bytes of the output. That is of
-// any length: a text would have its room in its type.
+// What a block leaves: the monitor, and the lines of refused records in the first `len` bytes of the output. The output
+// may have any length, which an `ArrayString` would fix, and the contract says what all of it holds, which it could not
+// of a part that is lent back.
 #[derive(Clone, Copy)]
 pub struct Block {
     pub monitor: Monitor,
@@ -36,7 +37,7 @@ fn put_line(out: &mut [u8], at: usize, index: u64, refusal: Refusal) -> usize
     n
 }
 
-// The records of a block, whose lines have room.
+// The records of a block, whose lines have room. A turn goes on behind the record that a run stopped at.
 fn replay_lines(m: Monitor, s: &[u8], first: u64, out: &mut [u8]) -> Block
     requires { 50 * whole_records s.now ≤ length out.old }
     ensures { BlockLeaves m s.now first out.old out.new result }
@@ -48,19 +49,14 @@ fn replay_lines(m: Monitor, s: &[u8], first: u64, out: &mut [u8]) -> Block
         let from = records::RECORD * i;
         let stop = files::run(monitor, &s[from..]);
         monitor = stop.monitor;
-        match stop.refused {
-            Some(refused) => {
-                i = i + refused.index;
-                let record = first.wrapping_add(i as u64);
-                len += put_line(out, len, record, refused.refusal);
-                i = i + 1;
-            }
-            None => {
-                break;
-            }
-        }
+        let Some(refused) = stop.refused else {
+            return Block { monitor, len };
+        };
+        i += refused.index;
+        let record = first.wrapping_add(i as u64);
+        len += put_line(out, len, record, refused.refusal);
+        i += 1;
     }
-    Block { monitor, len }
 }
 
 // A block of whole records, the first of which has the number `first`: as much of it as the output has room for, 50

@@ -46,10 +46,8 @@ fn number_said(n: usize) -> Option<Said>
 fn record_said(m: Monitor, r: &[u8]) -> Said
     ensures { says_said result ≡ record_said m r.now }
 {
-    match records::completion(r) {
-        Some(c) => Ok(m.reason(c)),
-        None => Err(Refusal::NotACompletion),
-    }
+    let c = records::completion(r).ok_or(Refusal::NotACompletion)?;
+    Ok(m.reason(c))
 }
 
 impl Question {
@@ -97,7 +95,7 @@ pub fn numbered(said: Said) -> Result<u8, u8>
     ensures { says_number result ≡ says_said said }
 {
     match said {
-        Ok(reason) => Ok(reason.map_or(0, |reason| u8::from(reason))),
+        Ok(reason) => Ok(reason.map_or(0, u8::from)),
         Err(refusal) => Err(u8::from(refusal)),
     }
 }

@@ -61,16 +61,11 @@ pub fn replay(m: Monitor, s: &[u8]) -> Monitor
         let from = records::RECORD * i;
         let stop = run(monitor, &s[from..]);
         monitor = stop.monitor;
-        match stop.refused {
-            Some(refused) => {
-                i = i + refused.index + 1;
-            }
-            None => {
-                break;
-            }
-        }
+        let Some(refused) = stop.refused else {
+            return monitor;
+        };
+        i += refused.index + 1;
     }
-    monitor
 }
 
 // The answer to what is left over at the end of a file of so many bytes.

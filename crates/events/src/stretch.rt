@@ -53,16 +53,14 @@ impl Parts {
         if let Some(c) = records::completion(r) {
             return self.active.completion(&self.monitor, places.place(c), c);
         }
-        match Event::read(r) {
-            Ok(event) => match timed(self.monitor, event) {
-                Some(time) => {
-                    self.monitor = passing::with_time(self.monitor, time);
-                    true
-                }
-                None => false,
-            },
-            Err(_) => false,
-        }
+        let Ok(event) = Event::read(r) else {
+            return false;
+        };
+        let Some(time) = timed(self.monitor, event) else {
+            return false;
+        };
+        self.monitor = passing::with_time(self.monitor, time);
+        true
     }
 
     // The end of a stretch of so many records.

@@ -28,10 +28,9 @@ fn print<W: Write, E: Write>(page: &[u8], output: &mut W, errors: &mut E) {
 // Reads a page and prints its listing.
 fn run<R: Read, W: Write, E: Write>(input: &mut R, output: &mut W, errors: &mut E) {
     let mut page = buffer();
-    let filled = streams::fill(input, &mut page);
-    match filled.failed {
-        Some(why) => streams::fail(errors, b"listing: cannot read", why),
-        None => print(&page[..filled.n], output, errors),
+    match streams::fill(input, &mut page).unless_failed() {
+        Ok(n) => print(&page[..n], output, errors),
+        Err(why) => streams::fail(errors, b"listing: cannot read", why),
     }
 }
 

@@ -30,8 +30,10 @@ pub struct LogPage {
     pub debug: DebugLog,
 }
 
-// The three parts of the page are filled in a slice: taken as an array, a lent slice was not proved to come back as it was
-// written. Bytes 0 to 31.
+// The parts of the page are filled in slices and no arrays: of a lent slice that is taken as an array the check does not
+// know what it ends as.
+
+// Bytes 0 to 31.
 fn write_head(page: &mut [u8], settings: Settings, timer: u16)
     requires { length page.old ≡ 512 }
     ensures { page.new ≡ sets page.old 0 (head_bytes settings timer) }

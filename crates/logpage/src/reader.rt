@@ -229,13 +229,20 @@ impl LogPage {
         ensures answer { refusal_in result ≡ read_refusal page.now }
         ensures reading { reading_in result ≡ reading_of page.now }
     {
-        match <&[u8; 512]>::try_from(page) {
-            Ok(page) => if identified(page) {
-                read_identified(page)
-            } else {
-                Err(Refusal::ReadIdentity)
-            },
-            Err(_) => Err(Refusal::ReadLength),
+        let Ok(page) = <&[u8; 512]>::try_from(page) else {
+            return Err(Refusal::ReadLength);
+        };
+        if identified(page) {
+            read_identified(page)
+        } else {
+            Err(Refusal::ReadIdentity)
         }
+    }
+
+    // What a page shows; of one that is turned away, what a new monitor's page does.
+    pub fn reading(page: &[u8]) -> Reading
+        ensures { result ≡ reading_of page.now }
+    {
+        LogPage::read(page).unwrap_or(Reading::none())
     }
 }

@@ -9,16 +9,16 @@ use window::UNSET;
 
 #[derive(Clone, Copy, Debug, PartialEq, Eq)]
 pub enum Reason {
-    Disabled,
+    Disabled = 1,
     // The opcode or the attribute is not counted.
-    OfNoKind,
-    BelowA,
+    OfNoKind = 2,
+    BelowA = 3,
     // The stamp is set, in mode first.
-    SetInFirst,
+    SetInFirst = 4,
     // The stamp is set, in mode largest, and the latency is not larger.
-    NotLarger,
+    NotLarger = 5,
     // The stamp is set, in mode largest, and the minimum window is not over.
-    WithinMinimum,
+    WithinMinimum = 6,
 }
 
 impl From<Reason> for u8 {
@@ -28,14 +28,7 @@ impl From<Reason> for u8 {
     ghost from_gives = { λ reason number. number ≡ number_of reason };
 
     fn from(reason: Reason) -> u8 {
-        match reason {
-            Reason::Disabled => 1,
-            Reason::OfNoKind => 2,
-            Reason::BelowA => 3,
-            Reason::SetInFirst => 4,
-            Reason::NotLarger => 5,
-            Reason::WithinMinimum => 6,
-        }
+        reason as u8
     }
 }
 
@@ -71,7 +64,7 @@ impl Monitor {
         } else if !c.has_kind() {
             Some(Reason::OfNoKind)
         } else if let Some(counter) = c.counter(self.settings) {
-            self.stamp_reason(counter as usize, c.milliseconds())
+            self.stamp_reason(usize::from(counter), c.milliseconds())
         } else {
             Some(Reason::BelowA)
         }

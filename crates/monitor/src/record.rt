@@ -137,7 +137,7 @@ impl Monitor {
             let answer = CompletionAnswer::BelowA;
             Outcome { next: self, answer }
         } else if let Some(counter) = c.counter(self.settings) {
-            let n = counter as usize;
+            let n = usize::from(counter);
             let ms = c.milliseconds();
             let debug = counting::triggers(self.settings.trigger, n, self.debug.stamp);
             self.debug = counting::logged(debug, self.debug, n, self.clock, ms, self.host_set);

@@ -15,17 +15,12 @@ impl Monitor {
         ensures bytes { page.new ≡ after_page self page.old }
         ensures answer { says_answer result ≡ page_answer (length page.old) }
     {
-        let settings = self.settings;
-        let timer = self.timer;
-        let active_window = self.active_window;
-        let static_window = self.static_window;
-        let debug = self.debug;
         let fields = LogPage {
-            settings,
-            timer,
-            active_window,
-            static_window,
-            debug,
+            settings: self.settings,
+            timer: self.timer,
+            active_window: self.active_window,
+            static_window: self.static_window,
+            debug: self.debug,
         };
         fields.write(page)
     }

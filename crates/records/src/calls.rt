@@ -18,19 +18,15 @@ fn settings_bytes(fields: [u8; 13]) -> [u8; 4096]
     s
 }
 
-// A call that has no more to tell than that it was accepted. This and the next are not one function over the answer: each
-// contract says it in the answer's own words.
+// A call that has no more to tell than that it was accepted. Not one function with the next: the contracts name different
+// definitions.
 fn plain(o: Outcome<Result<(), Refusal>>) -> Outcome<Result<RecordAnswer, Refusal>>
     ensures next { result.next ≡ o.next }
     ensures answer { says_record result.answer ≡ says_answer o.answer }
 {
-    let answer = match o.answer {
-        Ok(()) => Ok(RecordAnswer::Done),
-        Err(refusal) => Err(refusal),
-    };
     Outcome {
         next: o.next,
-        answer,
+        answer: o.answer.map(|()| RecordAnswer::Done),
     }
 }
 
@@ -39,13 +35,9 @@ fn of_elapsed(o: Outcome<Result<ElapsedAnswer, Refusal>>) -> Outcome<Result<Reco
     ensures next { result.next ≡ o.next }
     ensures answer { says_record result.answer ≡ says_elapsed o.answer }
 {
-    let answer = match o.answer {
-        Ok(answer) => Ok(RecordAnswer::from(answer)),
-        Err(refusal) => Err(refusal),
-    };
     Outcome {
         next: o.next,
-        answer,
+        answer: o.answer.map(|answer| RecordAnswer::from(answer)),
     }
 }
 

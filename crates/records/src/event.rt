@@ -88,10 +88,10 @@ fn completed(r: &[u8; 16]) -> Option<Command>
 pub fn completion(r: &[u8]) -> Option<Command>
     ensures { result ≡ completion_at r.now }
 {
-    match <&[u8; 16]>::try_from(r) {
-        Ok(r) => completed(r),
-        Err(_) => None,
-    }
+    let Ok(r) = <&[u8; 16]>::try_from(r) else {
+        return None;
+    };
+    completed(r)
 }
 
 impl Event {
@@ -118,9 +118,9 @@ impl Event {
         ensures event { says_event (result_ok result) ≡ call_of r.now }
         ensures refusal { IfErr result (λ e. e ≡ Refusal.UnknownRecord) }
     {
-        match <&[u8; 16]>::try_from(r) {
-            Ok(r) => Event::of(r).ok_or(Refusal::UnknownRecord),
-            Err(_) => Err(Refusal::UnknownRecord),
-        }
+        let Ok(r) = <&[u8; 16]>::try_from(r) else {
+            return Err(Refusal::UnknownRecord);
+        };
+        Event::of(r).ok_or(Refusal::UnknownRecord)
     }
 }

@@ -4,37 +4,37 @@
 #[derive(Clone, Copy, Debug, PartialEq, Eq)]
 pub enum Refusal {
     // Settings are not 4,096 bytes.
-    SettingsLength,
+    SettingsLength = 1,
     // A reserved byte of the settings is not zero.
-    ReservedByte,
+    ReservedByte = 2,
     // Discard or enable is above 1.
-    FlagAboveOne,
+    FlagAboveOne = 3,
     // The timer threshold is 0.
-    NoTimerThreshold,
+    NoTimerThreshold = 4,
     // A threshold is above the next.
-    ThresholdOrder,
+    ThresholdOrder = 5,
     // The mode or the trigger has a bit of no counter.
-    ReservedBit,
+    ReservedBit = 6,
     // Elapsed time is above its top.
-    ElapsedTime,
+    ElapsedTime = 7,
     // The clock is above its top.
-    ClockValue,
+    ClockValue = 8,
     // The buffer for the page is not 512 bytes.
-    PageLength,
+    PageLength = 9,
     // The buffer for the settings is not 4,096 bytes.
-    SettingsBackLength,
+    SettingsBackLength = 10,
     // A record's kind is unknown, an unnamed byte of it is set, or its deallocate attribute is above 1.
-    UnknownRecord,
+    UnknownRecord = 11,
     // A file does not end with a whole record.
-    PartOfRecord,
+    PartOfRecord = 12,
     // A page that is read is not 512 bytes.
-    ReadLength,
+    ReadLength = 13,
     // Its version or GUID is another.
-    ReadIdentity,
+    ReadIdentity = 14,
     // It breaks a rule of the layout.
-    ReadLayout,
+    ReadLayout = 15,
     // A number is not whole, or no completion has it.
-    NotACompletion,
+    NotACompletion = 16,
 }
 
 impl From<Refusal> for u8 {
@@ -44,23 +44,6 @@ impl From<Refusal> for u8 {
     ghost from_gives = { λ refusal number. number ≡ number_of refusal };
 
     fn from(refusal: Refusal) -> u8 {
-        match refusal {
-            Refusal::SettingsLength => 1,
-            Refusal::ReservedByte => 2,
-            Refusal::FlagAboveOne => 3,
-            Refusal::NoTimerThreshold => 4,
-            Refusal::ThresholdOrder => 5,
-            Refusal::ReservedBit => 6,
-            Refusal::ElapsedTime => 7,
-            Refusal::ClockValue => 8,
-            Refusal::PageLength => 9,
-            Refusal::SettingsBackLength => 10,
-            Refusal::UnknownRecord => 11,
-            Refusal::PartOfRecord => 12,
-            Refusal::ReadLength => 13,
-            Refusal::ReadIdentity => 14,
-            Refusal::ReadLayout => 15,
-            Refusal::NotACompletion => 16,
-        }
+        refusal as u8
     }
 }

@@ -23,7 +23,7 @@ pub struct Command {
 fn reaches(latency: u32, threshold: u8) -> bool
     ensures { result ≡ reaches latency threshold }
 {
-    5000 * (threshold as u32 + 1) <= latency
+    5000 * (u32::from(threshold) + 1) <= latency
 }
 
 // The number of the highest bucket whose threshold is reached, by whether A, B, C and D are. These are four parameters
@@ -39,7 +39,7 @@ fn highest(a: bool, b: bool, c: bool, d: bool) -> Option<u16>
             break None;
         }
         n -= 1;
-        if reached[n as usize] {
+        if reached[usize::from(n)] {
             break Some(n);
         }
     }
@@ -49,7 +49,7 @@ fn highest(a: bool, b: bool, c: bool, d: bool) -> Option<u16>
 pub fn latency_above(ms: u16) -> u32
     ensures { result ≡ latency_above ms }
 {
-    1000 * (ms as u32 + 1)
+    1000 * (u32::from(ms) + 1)
 }
 
 impl Command {
@@ -92,7 +92,7 @@ impl Command {
         ensures { result ≡ milliseconds_of self }
     {
         let ms = self.latency / 1000;
-        ms.min(65535) as u16
+        u16::try_from(ms).unwrap_or(u16::MAX)
     }
 
     // The counter that the completion counts for. Most completions are below threshold A, so that is asked first.

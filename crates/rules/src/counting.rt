@@ -13,8 +13,7 @@ pub fn bit(mask: u16, n: usize) -> bool
     (n < 16) & ((mask >> (n % 16)) % 2 == 1)
 }
 
-// The mask that has counter n's bit alone. That there are twelve counters stands as a `requires` where an array of twelve
-// is indexed: a type for it would be built and proved at each call.
+// The mask that has counter n's bit alone.
 fn one_bit(n: usize) -> u16
     requires { n < 12 }
     ensures { result ≡ 2 ^ n }
@@ -22,12 +21,13 @@ fn one_bit(n: usize) -> u16
     1 << n
 }
 
-// The counts after one more completion for number n, each held at its top; a number that has no count changes none.
+// The counts after one more completion for number n, each held at its top; a number that has no count changes none. All
+// are looked at: a store at n alone would send them through memory.
 pub fn counted_at<const N: usize>(mut counts: [u32; N], n: u16) -> [u32; N]
     ensures { result ≡ once_more_at counts.entry n }
 {
     for (i, count) in counts.iter_mut().enumerate() {
-        if i == n as usize {
+        if i == usize::from(n) {
             *count = count.saturating_add(1);
         }
     }
@@ -46,7 +46,7 @@ pub fn larger(latency: u16, ms: u16) -> bool
 pub fn waited(loaded: u64, time: u64, minimum: u8) -> bool
     ensures { result ≡ waited (time - loaded) minimum }
 {
-    100 * (minimum as u64) <= time.saturating_sub(loaded)
+    100 * u64::from(minimum) <= time.saturating_sub(loaded)
 }
 
 // Whether a latency of `ms` loads a stamp that is set, in mode largest.

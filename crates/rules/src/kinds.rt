@@ -2,9 +2,9 @@
 
 #[derive(Clone, Copy, Debug, PartialEq, Eq)]
 pub enum Kind {
-    Read,
-    Write,
-    Deallocate,
+    Read = 0,
+    Write = 1,
+    Deallocate = 2,
 }
 
 // The number of a kind, by which counters are numbered.
@@ -15,10 +15,6 @@ impl From<Kind> for u16 {
     ghost from_gives = { λ kind number. number ≡ number_of kind };
 
     fn from(kind: Kind) -> u16 {
-        match kind {
-            Kind::Read => 0,
-            Kind::Write => 1,
-            Kind::Deallocate => 2,
-        }
+        kind as u16
     }
 }

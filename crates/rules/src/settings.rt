@@ -77,7 +77,7 @@ fn check_fields(discard: u8, enable: u8, s: Settings) -> Result<(), Refusal>
     ensures { says_answer result ≡ unless_refused (field_refusal discard enable s) done }
 {
     let t = s.thresholds;
-    if either_above(1, discard as u16, enable as u16) {
+    if either_above(1, u16::from(discard), u16::from(enable)) {
         Err(Refusal::FlagAboveOne)
     } else if s.timer_threshold == 0 {
         Err(Refusal::NoTimerThreshold)

@@ -3,7 +3,7 @@ ghost use Rattle.std.specs.Prelude.{◌≡◌, ◌≤◌};
 ghost use Rattle.rules.specs.Timer.{tick, ticked, in_window, grown};
 
 // The timer's increment: five minutes, in ms.
-const INCREMENT: u32 = 300_000;
+const INCREMENT: u64 = 300_000;
 
 // The most time that one call may bring.
 pub const ELAPSED_TOP: u32 = 300_000;
@@ -33,18 +33,19 @@ impl Tick {
 }
 
 // The timer after elapsed time, which it measures while enabled. Its two numbers stand apart, as in the record.
+#[tactic(auto, unfolding(crate::specs::Timer::ticked))]
 pub fn ticked(enabled: bool, threshold: u16, timer: u16, partial: u32, ms: u32) -> Tick
     requires { ms ≤ 300000 }
     ensures { result ≡ ticked enabled threshold timer partial ms }
 {
     if enabled {
-        let sum = partial as u64 + ms as u64;
-        if sum < INCREMENT as u64 {
+        let sum = u64::from(partial) + u64::from(ms);
+        if sum < INCREMENT {
             return Tick::of(timer, sum as u32, false);
         }
-        let rest = (sum - INCREMENT as u64) as u32;
-        let next = timer as u32 + 1;
-        if next < threshold as u32 {
+        let rest = (sum - INCREMENT) as u32;
+        let next = u32::from(timer) + 1;
+        if next < u32::from(threshold) {
             return Tick::of(next as u16, rest, false);
         }
         return Tick::of(0, rest, true);
@@ -56,12 +57,12 @@ pub fn ticked(enabled: bool, threshold: u16, timer: u16, partial: u32, ms: u32) 
 pub fn in_window(timer: u16, partial: u32) -> u64
     ensures { result ≡ in_window timer partial }
 {
-    timer as u64 * INCREMENT as u64 + partial as u64
+    u64::from(timer) * INCREMENT + u64::from(partial)
 }
 
 // The clock after elapsed time, held at its top.
 pub fn grown(clock: u64, ms: u32) -> u64
     ensures { result ≡ grown clock ms }
 {
-    clock.saturating_add(ms as u64).min(CLOCK_TOP)
+    clock.saturating_add(u64::from(ms)).min(CLOCK_TOP)
 }

@@ -9,10 +9,8 @@ const ROOM: usize = 128;
 
 // A text up to the error's number, which only the program's programmer would look up.
 fn without_number(text: &str) -> &str {
-    match text.split_once(" (os error ") {
-        Some((words, _)) => words,
-        None => text,
-    }
+    text.split_once(" (os error ")
+        .map_or(text, |(words, _)| words)
 }
 
 // Writes a line to standard error: what failed, as the caller names it, a colon and why.

@@ -32,7 +32,7 @@ fn push_digit<const N: usize>(text: &mut ArrayString<N>, d: u8)
     ensures digit { text.new.bytes ≡ text.old.bytes ++ hex_digit d ∷ [] }
     ensures len { array_string_len text.new ≡ array_string_len text.old + 1 }
 {
-    text.push(hex_digit(d) as char);
+    text.push(char::from(hex_digit(d)));
 }
 
 // Appends the offset in three digits, colon and space.

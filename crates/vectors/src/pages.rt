@@ -46,10 +46,8 @@ fn shows(r: Reading, expected: &[u8; FIELDS]) -> bool {
 
 // Whether a page is read as these fields, for 0, or refused by this number, where the fields are a new monitor's.
 fn reads_as(page: &[u8], number: u8, expected: &[u8; FIELDS]) -> bool {
-    match LogPage::read(page) {
-        Ok(reading) => number == 0 && shows(reading, expected),
-        Err(refusal) => number == u8::from(refusal) && shows(Reading::none(), expected),
-    }
+    LogPage::read(page).err().map_or(0, u8::from) == number
+        && shows(LogPage::reading(page), expected)
 }
 
 // Whether a page is listed as this text.

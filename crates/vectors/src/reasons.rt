@@ -7,13 +7,10 @@ use std::io::Read;
 // The bytes of a question: how many bytes of the number are there, the number, the length of what is printed, and that.
 const QUESTION: usize = 17;
 
-// The bytes of a block, as the program reads it.
-const BLOCK: usize = 65536;
-
 // What is said of a record, by a file in blocks; none is read after the one that says it.
 fn explained(file: &[u8], number: &[u8]) -> Option<Said> {
     let mut e = Question::new(number);
-    for block in file.chunks(BLOCK) {
+    for block in file.chunks(streams::BLOCK) {
         if e.said.is_some() {
             break;
         }

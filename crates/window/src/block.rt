@@ -21,6 +21,8 @@ pub(crate) const LATENCY: usize = 2;
 // A bucket's fields: reserved, Deallocate, Write, Read.
 const BUCKET_WIDTHS: [usize; 4] = [COUNTER; 4];
 
+// That there are twelve counters stands as a `requires` wherever an array of twelve is indexed: a type for it would be
+// built and proved at each call.
 pub(crate) fn stamp_place(n: usize) -> usize
     requires { n < 12 }
     ensures { result ≡ stamp_place n }
@@ -62,7 +64,8 @@ fn put_counters(block: &mut [u8], counters: [u32; 12])
     }
 }
 
-// The values of the twelve counters, each of this width and at its place: from `start` on, counter 11 first.
+// The values of the twelve counters, each of this width and at its place: from `start` on, counter 11 first. By index,
+// which the place is asked of.
 fn put_each<P: Fn(usize) -> usize>(block: &mut [u8], place: P, width: usize, values: [u64; 12])
     ghost start: { ℕ }
     requires callable { (n : ℕ) → n < 12 → P.pre place n }

@@ -43,8 +43,8 @@ put_line-len-requires c = omega (arith, (past (goal.at.put_line-len-requires c).
 pub overflow_add-len : goal.overflow_add-len
 overflow_add-len c = omega (arith, (past (goal.at.overflow_add-len c).In-Some).0, (line (goal.at.overflow_add-len c).After-put_line-len).within, (line (goal.at.overflow_add-len c).After-put_line-len).room)
 
-pub overflow_add-i-in-Some : goal.overflow_add-i-in-Some
-overflow_add-i-in-Some c = omega (arith, (past (goal.at.overflow_add-i-in-Some c).In-Some).0)
+pub overflow_add-i-in-loop-refused : goal.overflow_add-i-in-loop-refused
+overflow_add-i-in-loop-refused c = omega (arith, (past (goal.at.overflow_add-i-in-loop-refused c).In-Some).0)
 
 pub loop-refused-smaller : goal.loop-refused-smaller
 loop-refused-smaller c = omega (arith, (past (goal.at.loop-refused-smaller c).In-Some).0)
@@ -52,14 +52,11 @@ loop-refused-smaller c = omega (arith, (past (goal.at.loop-refused-smaller c).In
 pub loop-refused-preserved : goal.loop-refused-preserved
 loop-refused-preserved c = (past (goal.at.loop-refused-preserved c).In-Some, line (goal.at.loop-refused-preserved c).After-put_line-len)
 
-pub shape_of-out : goal.shape_of-out
-shape_of-out c = c.loop-refused.invariant.1.room
-
-pub returns : goal.returns
-returns c =
+pub returns-in_default : goal.returns-in_default
+returns-in_default c =
     let monitor = rw (part_to_end _ (16 * c.loop-refused.i)) at c.run-stop.ensures.monitor in
     let refused = rw (part_to_end _ (16 * c.loop-refused.i)) at c.run-stop.ensures.refused in
-    let end = sym (ap says_refused c.in-None.is) ∙ refused in
+    let end = sym (ap says_refused c.in_default.is) ∙ refused in
     record {
       monitor = replayed _ _ _ _ c.loop-refused.i c.loop-refused.invariant.0 (monitor, end);
       lines = told-all _ _ _ _ c.loop-refused.i _ c.loop-refused.invariant.0.0 c.loop-refused.invariant.1 end c.requires;

@@ -1,5 +1,5 @@
 -- `replay`: before each run, the monitor is what the records before it leave.
-use Rattle.std.proofs.Common.{◌+◌, ◌*◌, sym, refl, ap, ◌∙◌, arith, rules}
+use Rattle.std.proofs.Common.{◌≡◌, ◌+◌, ◌*◌, sym, refl, ap, ◌∙◌, arith, rules}
 use borrow.Author.Rules.{part_to_end}
 use Rattle.monitor.specs.Calls.{play_from}
 use Rattle.events.specs.Files.{calls_before, says_refused}
@@ -17,17 +17,20 @@ past :
     Replayed c.args.m
     c.args.s.now
     c.run-stop.result.monitor
-    (c.loop-refused.i + c.in-Some.refused.index + 1)
+    (c.loop-refused.i + (c.in-Some.refused.index + 1))
 past c =
     let monitor = rw (part_to_end _ (16 * c.loop-refused.i)) at c.run-stop.ensures.monitor in
     let refused = rw (part_to_end _ (16 * c.loop-refused.i)) at c.run-stop.ensures.refused in
-    skipped _ _ _ _ c.loop-refused.i _ c.loop-refused.invariant (monitor, sym (ap says_refused c.in-Some.is) ∙ refused)
+    let on : c.loop-refused.i + (c.in-Some.refused.index + 1) ≡ c.loop-refused.i + c.in-Some.refused.index + 1 = omega arith
+    in
+    rw on
+    (skipped _ _ _ _ c.loop-refused.i _ c.loop-refused.invariant (monitor, sym (ap says_refused c.in-Some.is) ∙ refused))
 
 pub overflow_add-i : goal.overflow_add-i
 overflow_add-i c = omega (arith, (past (goal.at.overflow_add-i c).In-Some).0)
 
-pub overflow_add-i-in-Some : goal.overflow_add-i-in-Some
-overflow_add-i-in-Some c = omega (arith, (past (goal.at.overflow_add-i-in-Some c).In-Some).0)
+pub overflow_add-i-in-loop-refused : goal.overflow_add-i-in-loop-refused
+overflow_add-i-in-loop-refused c = omega (arith, (past (goal.at.overflow_add-i-in-loop-refused c).In-Some).0)
 
 pub loop-refused-smaller : goal.loop-refused-smaller
 loop-refused-smaller c = omega (arith, (past (goal.at.loop-refused-smaller c).In-Some).0)
@@ -35,8 +38,8 @@ loop-refused-smaller c = omega (arith, (past (goal.at.loop-refused-smaller c).In
 pub loop-refused-preserved : goal.loop-refused-preserved
 loop-refused-preserved c = past (goal.at.loop-refused-preserved c).In-Some
 
-pub returns : goal.returns
-returns c =
+pub returns-in_default : goal.returns-in_default
+returns-in_default c =
     let monitor = rw (part_to_end _ (16 * c.loop-refused.i)) at c.run-stop.ensures.monitor in
     let refused = rw (part_to_end _ (16 * c.loop-refused.i)) at c.run-stop.ensures.refused in
-    replayed _ _ _ _ c.loop-refused.i c.loop-refused.invariant (monitor, sym (ap says_refused c.in-None.is) ∙ refused)
+    replayed _ _ _ _ c.loop-refused.i c.loop-refused.invariant (monitor, sym (ap says_refused c.in_default.is) ∙ refused)

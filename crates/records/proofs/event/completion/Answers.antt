@@ -4,14 +4,14 @@ use Rattle.records.specs.Records.{record_kind, call_of_kind, command_of_call, co
 use Rattle.records.proofs.Laws.{of-sixteen, not-sixteen}
 use Rattle.records.proofs.event.completion.Goals as goal
 
-pub returns-in-Ok : goal.returns-in-Ok
+pub returns : goal.returns
 unfolding completion_at
-returns-in-Ok c =
+returns c =
     let whole = (rw c.in-Ok.is at c.try_from.ensures).1 in
     c.completed.ensures ∙
     ap command_of_call
     (ap (λ bytes. call_of_kind (record_kind bytes) bytes) whole.same ∙ sym (of-sixteen c.args.r.now whole.long))
 
-pub returns-in-Err : goal.returns-in-Err
+pub returns-in_default : goal.returns-in_default
 unfolding completion_at
-returns-in-Err c = ap command_of_call (sym (not-sixteen c.args.r.now (rw c.in-Err.is at c.try_from.ensures).1))
+returns-in_default c = ap command_of_call (sym (not-sixteen c.args.r.now c.in_default.ensures.1))

@@ -11,7 +11,7 @@ use Rattle.rules.proofs.settings.check_fields.Goals as goal
 flags-pass :
     (c : goal.Else-either_above) →
     either_above 1 c.args.discard c.args.enable ≡ false
-flags-pass c = sym c.either_above.ensures ∙ c.if-either_above.false
+flags-pass c = sym (rw (c.from.ensures, c.from-2.ensures) at c.either_above.ensures) ∙ c.if-either_above.false
 
 order-passes :
     (c : goal.Else-unordered) →
@@ -19,7 +19,7 @@ order-passes :
 order-passes c = sym c.unordered.ensures ∙ c.if-unordered.false
 
 pub returns-then-either_above : goal.returns-then-either_above
-returns-then-either_above c = flags-refused _ _ _ (sym c.either_above.ensures ∙ c.if-either_above.true)
+returns-then-either_above c = flags-refused _ _ _ (sym (rw (c.from.ensures, c.from-2.ensures) at c.either_above.ensures) ∙ c.if-either_above.true)
 
 pub returns-then-s-eq0 : goal.returns-then-s-eq0
 returns-then-s-eq0 c = timer-refused _ _ _ (flags-pass (goal.at.returns-then-s-eq0 c).Else-either_above) c.if-s-eq0.true

@@ -47,8 +47,8 @@ returns-in-Some-clause-room c top few = by c.completion-in-Some.result refl
         few
     by false h = λ place. rw (c.completion-in-Some.ensures.kept h) (omega (arith, few place))
 
-pub returns-in-Some-timed : goal.returns-in-Some-timed
-returns-in-Some-timed c =
+pub returns : goal.returns
+returns c =
     let x =
     timed _ _ c.requires.steady _ _ c.in-Some-timed.time (sym c.in-Ok.ensures.event) (sym c.in-Some-timed.ensures)
     in

@@ -26,8 +26,8 @@ returns-else-identified c =
     in
     record { answer = sym row; reading = rw row }
 
-pub returns-in-Err : goal.returns-in-Err
+pub returns-in_default : goal.returns-in_default
 unfolding reading_of
-returns-in-Err c =
-    let row = wrong-length c.args.page.now (rw c.in-Err.is at c.try_from.ensures).1 in
+returns-in_default c =
+    let row = wrong-length c.args.page.now c.in_default.ensures.1 in
     record { answer = sym row; reading = rw row }

@@ -18,10 +18,10 @@ decided :
 decided c load e =
     decide _ _ _ _ _ _ _ _ (sym c.in-Some.ensures.counter)
     c.milliseconds-ms.ensures
-    c.triggers-debug.ensures
-    c.logged-self.ensures
+    (rw c.from-n.ensures at c.triggers-debug.ensures)
+    (rw c.from-n.ensures at c.logged-self.ensures)
     c.counted_at-counters.ensures
-    (sym e ∙ c.loads.ensures)
+    (sym e ∙ (rw c.from-n.ensures at c.loads.ensures))
 
 -- neither counted case is that of a completion below threshold A
 not-below : (c : goal.After-loads) → false ≡ is_below_a c.args.self.settings c.args.c
@@ -36,7 +36,7 @@ returns-then-is_below_a c =
 pub returns-then-loads : goal.returns-then-loads
 returns-then-loads c =
     let d = decided (goal.at.returns-then-loads c).After-loads true c.if-loads.true in
-    record { next = rw (c.of-self.ensures, c.in_window.ensures) d.next; answer = d.answer; below_a = not-below (goal.at.returns-then-loads c).After-loads }
+    record { next = rw (c.of-self.ensures, c.in_window.ensures, c.from-n.ensures) d.next; answer = d.answer; below_a = not-below (goal.at.returns-then-loads c).After-loads }
 
 pub returns-else-loads : goal.returns-else-loads
 returns-else-loads c =

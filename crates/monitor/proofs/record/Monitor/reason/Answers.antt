@@ -14,7 +14,7 @@ returns-then-not-has_kind c =
 
 pub returns-in-Some : goal.returns-in-Some
 returns-in-Some c =
-    c.stamp_reason.ensures ∙ sym (reason-of-counter _ _ _ _ (sym c.in-Some.ensures.counter) c.milliseconds.ensures)
+    (rw c.from.ensures at c.stamp_reason.ensures) ∙ sym (reason-of-counter _ _ _ _ (sym c.in-Some.ensures.counter) c.milliseconds.ensures)
 
 pub returns-in_default : goal.returns-in_default
 returns-in_default c =
