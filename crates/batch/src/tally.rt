@@ -110,7 +110,7 @@ fn held_all(counts: [u64; 28]) -> [u32; 28]
     all
 }
 
-// The counter of a place; 0 for a place that is no counter's.
+// The counter of a place; 0 for a place that is no counter's, as the definitions of what is stamped have it.
 pub fn counter_at(place: usize) -> usize
     ensures { result ≡ counter_at_place place }
 {

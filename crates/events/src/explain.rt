@@ -23,7 +23,8 @@ pub struct Question {
     pub before: u32,
 }
 
-// What a part of the input leaves of a question, and what is said; nothing, where the record has not been reached.
+// What a part of the input leaves of a question, and what is said; nothing, where the record has not been reached. Both,
+// since what is left is promised either way.
 #[derive(Clone, Copy)]
 pub struct Explanation {
     pub next: Question,
@@ -100,7 +101,8 @@ pub fn numbered(said: Said) -> Result<u8, u8>
     }
 }
 
-// The line of what is said, by its number. A record that was not reached by the end of the input is not there.
+// The line of what is said, by its number, since any number has a line. A record that was not reached by the end of the
+// input is not there.
 pub fn explained_line(said: Option<Result<u8, u8>>) -> Line
     ensures { result.bytes ≡ said_line (at_end (says_numbers said)) }
 {

@@ -54,7 +54,7 @@ struct Head {
     ghost bounded: { Bounded head_widths values },
 }
 
-// The values of bytes 448 to 464, likewise.
+// The values of bytes 448 to 464, likewise; a type of its own, since the widths are others.
 #[derive(Clone, Copy)]
 struct Tail {
     values: [u64; 6],

@@ -20,7 +20,7 @@ use streams::BLOCK;
 // More records than any input has: nothing else says that the input ends.
 const RECORDS: u64 = 4_503_599_627_370_496;
 
-// What the last block of input left, and its bytes.
+// What the last block of input left, and how many bytes it has: the line of the end says what was left over of them.
 #[derive(Clone, Copy)]
 struct Last {
     progress: Progress,

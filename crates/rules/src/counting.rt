@@ -56,7 +56,8 @@ pub fn exceeds(latency: u16, loaded: u64, ms: u16, minimum: u8, time: u64) -> bo
     larger(latency, ms) && waited(loaded, time, minimum)
 }
 
-// Whether a completion of `ms` loads a stamp: an unset one, or one in mode largest.
+// Whether a completion of `ms` loads a stamp: an unset one, or one in mode largest. Its parts come one by one: the record
+// and a loop over an event file keep them in different places.
 #[tactic(auto, unfolding(crate::specs::Counting::loads))]
 pub fn loads(
     stamp: u64,
