@@ -1,6 +1,6 @@
 // A completed command: the counter that it counts for, whether it is below threshold A, and its latency in ms.
 ghost use Rattle.std.specs.Prelude.{◌≡◌, ◌<◌, ◌∷◌, [], IfSome};
-ghost use Rattle.rules.specs.Commands.{kind_of, says_kind, has_kind, reaches, bucket_of, counter_of};
+ghost use Rattle.rules.specs.Commands.{kind_of, says_kind, has_kind, reaches, bucket_of, counter_of, counter_number};
 ghost use Rattle.rules.specs.Commands.{is_below_a, below_a_of, milliseconds_of, highest_reached, latency_above};
 ghost use Rattle.rules.specs.Counting.{counted_below_a};
 
@@ -95,9 +95,11 @@ impl Command {
         u16::try_from(ms).unwrap_or(u16::MAX)
     }
 
-    // The counter that the completion counts for. Most completions are below threshold A, so that is asked first.
+    // The counter that the completion counts for; as a number, where 12 stands for none, it says as much (`is-counter` and
+    // `no-counter` of proofs/Counters.antt). Most completions are below threshold A, so that is asked first.
     pub fn counter(self, s: Settings) -> Option<u16>
         ensures counter { result ≡ counter_of s self }
+        ensures number { counter_number result ≡ counter_number (counter_of s self) }
         ensures below { IfSome result (λ n. n < 12) }
     {
         let thresholds = s.thresholds;

@@ -1,8 +1,8 @@
 -- `Command::counter`: disabled, below threshold A, of no kind, and of a kind.
-use mathlib.Core.Path.{◌≡◌, sym, ◌∙◌}
+use mathlib.Core.Path.{◌≡◌, sym, ap, ◌∙◌}
 use native.Mathlib.Omega.{arith}
 use Rattle.std.proofs.lemmas.Bool.{not-true, not-false}
-use Rattle.rules.specs.Commands.{bucket_of, kind_of, counter_at, counter_of}
+use Rattle.rules.specs.Commands.{bucket_of, kind_of, counter_at, counter_of, counter_number}
 use Rattle.rules.proofs.commands.Laws.{bucket-few, kind-few, at-no-kind, slow-counter}
 use Rattle.rules.proofs.commands.Command.counter.Goals.{After-bucket}
 use Rattle.rules.proofs.commands.Command.counter.Goals as goal
@@ -63,3 +63,18 @@ returns-clause-below c =
     let few = bucket-few _ _ _ (sym c.in_ok-bucket.ensures) in
     let kinds = kind-few _ _ (sym c.in_ok-kind.ensures) in
     omega (arith, c.from.ensures)
+
+pub returns-then-not-s-clause-number : goal.returns-then-not-s-clause-number
+returns-then-not-s-clause-number c = ap counter_number (returns-then-not-s-clause-counter c)
+
+pub returns-then-not-reaches-clause-number : goal.returns-then-not-reaches-clause-number
+returns-then-not-reaches-clause-number c = ap counter_number (returns-then-not-reaches-clause-counter c)
+
+pub returns-in_err-bucket-clause-number : goal.returns-in_err-bucket-clause-number
+returns-in_err-bucket-clause-number c = ap counter_number (returns-in_err-bucket-clause-counter c)
+
+pub returns-in_err-kind-clause-number : goal.returns-in_err-kind-clause-number
+returns-in_err-kind-clause-number c = ap counter_number (returns-in_err-kind-clause-counter c)
+
+pub returns-clause-number : goal.returns-clause-number
+returns-clause-number c = ap counter_number (returns-clause-counter c)
