@@ -18,7 +18,7 @@ ghost use Rattle.latency_monitor.specs.Reading.{read_into, read_answer};
 
 pub use answers::{PlainBelowA, PlainCompletionAnswer, PlainElapsedAnswer};
 use logpage::{LogPage, Reading};
-use monitor::{Command, Monitor, Outcome, WindowChoice};
+use monitor::{Command, ElapsedAnswer, Monitor, Outcome, WindowChoice};
 
 // A new monitor.
 #[unsafe(no_mangle)]
@@ -50,15 +50,27 @@ pub extern "C" fn latency_monitor_completion(m: &mut Monitor, c: Command) -> Pla
     answer.into()
 }
 
-// Elapsed time, in ms.
+// Elapsed time, in ms. The record is stored in each arm, so that the compiled ways stay apart and write what they change.
 #[unsafe(no_mangle)]
 pub extern "C" fn latency_monitor_elapsed(m: &mut Monitor, ms: u32) -> PlainElapsedAnswer
     ensures next { m.new ≡ after_elapsed m.old ms }
     ensures answer { result ≡ as_elapsed (elapsed_answer m.old ms) }
 {
-    let Outcome { next, answer } = m.elapsed(ms);
-    *m = next;
-    answer.into()
+    let o = m.elapsed(ms);
+    match o.answer {
+        Ok(ElapsedAnswer::Active) => {
+            *m = o.next;
+            o.answer.into()
+        }
+        Ok(ElapsedAnswer::Ended) => {
+            *m = o.next;
+            o.answer.into()
+        }
+        Err(_) => {
+            *m = o.next;
+            o.answer.into()
+        }
+    }
 }
 
 // The host sets the clock, in ms.

@@ -91,10 +91,11 @@ impl Monitor {
                     self.loaded = [0; 12];
                     self.static_window = w;
                     self.active_window = w;
-                }
-                Outcome {
-                    next: self,
-                    answer: Ok(()),
+                    let answer = Ok(());
+                    Outcome { next: self, answer }
+                } else {
+                    let answer = Ok(());
+                    Outcome { next: self, answer }
                 }
             }
         }
