@@ -9,4 +9,5 @@ mod stretch;
 pub use blocks::{Block, end_line, replay_block};
 pub use explain::{Explanation, Question, Said, explained_line, numbered};
 pub use files::{RefusedRecord, Stop, left_over, replay, run};
-pub use records::{RecordAnswer, apply};
+pub use records::{Event, RecordAnswer, apply};
+pub use stretch::timed;

@@ -3,10 +3,10 @@
 ghost use Rattle.std.specs.Prelude.{◌≡◌, ◌≤◌, ◌+◌, ℕ, true, false, None};
 ghost use Rattle.monitor.specs.Calls.{play_from};
 ghost use Rattle.batch.specs.Passing.{time_by};
-ghost use Rattle.batch.specs.Tally.{AtMost};
+ghost use Rattle.batch.specs.Tally.{AtMost, with_active};
 ghost use Rattle.records.specs.Records.{call_in, record_refusal, after_record};
 ghost use Rattle.events.specs.Files.{calls_before, whole_records, NoneRefused};
-ghost use Rattle.events.specs.Stretch.{Steady, so_far};
+ghost use Rattle.events.specs.Stretch.{Steady};
 
 use batch::tally::Places;
 use batch::{Active, Time, passing, tally};
@@ -20,15 +20,8 @@ pub(crate) struct Played {
     pub(crate) records: usize,
 }
 
-// What a stretch keeps apart: the active window, and the monitor but for that.
-#[derive(Clone, Copy)]
-struct Parts {
-    monitor: Monitor,
-    active: Active,
-}
-
-// The clock and the timer after an event that changes these alone.
-fn timed(m: Monitor, event: Event) -> Option<Time>
+// The clock and the timer after an event that changes these alone; none after any other.
+pub fn timed(m: Monitor, event: Event) -> Option<Time>
     ensures { result ≡ time_by m (call_in event) }
 {
     match event {
@@ -39,38 +32,37 @@ fn timed(m: Monitor, event: Event) -> Option<Time>
     }
 }
 
-impl Parts {
-    // One record more. False where it does more than a stretch takes: then nothing is done.
-    fn record(&mut self, places: &Places, r: &[u8; RECORD]) -> bool
-        requires steady { Steady places.now.settings self.old }
-        requires room { AtMost 18446744073709551614 self.old.active.counts }
-        ensures kept { result ≡ false → self.new ≡ self.old }
-        ensures steady { result ≡ true → Steady places.now.settings self.new }
-        ensures room { (top : ℕ) → AtMost top self.old.active.counts → AtMost (top + 1) self.new.active.counts }
-        ensures accepted { result ≡ true → record_refusal r.now ≡ None }
-        ensures next { result ≡ true → so_far self.new ≡ after_record (so_far self.old) r.now }
-    {
-        if let Some(c) = records::completion(r) {
-            return self.active.completion(&self.monitor, places.place(c), c);
-        }
-        let Ok(event) = Event::read(r) else {
-            return false;
-        };
-        let Some(time) = timed(self.monitor, event) else {
-            return false;
-        };
-        self.monitor = passing::with_time(self.monitor, time);
-        true
+// One record more. False where it does more than a stretch takes: then nothing is done. The active window is a local of
+// its own, and no part of a struct with the monitor, which then would go through memory at each stretch.
+fn record(monitor: &mut Monitor, active: &mut Active, places: &Places, r: &[u8; RECORD]) -> bool
+    requires steady { Steady places.now.settings monitor.old active.old }
+    requires room { AtMost 18446744073709551614 active.old.counts }
+    ensures kept { result ≡ false → (monitor.new ≡ monitor.old) × (active.new ≡ active.old) }
+    ensures steady { result ≡ true → Steady places.now.settings monitor.new active.new }
+    ensures room { (top : ℕ) → AtMost top active.old.counts → AtMost (top + 1) active.new.counts }
+    ensures accepted { result ≡ true → record_refusal r.now ≡ None }
+    ensures next { result ≡ true → with_active monitor.new active.new ≡ after_record (with_active monitor.old active.old) r.now }
+{
+    if let Some(c) = records::completion(r) {
+        return active.completion(monitor, places.place(c), c);
     }
+    let Ok(event) = Event::read(r) else {
+        return false;
+    };
+    let Some(time) = timed(*monitor, event) else {
+        return false;
+    };
+    *monitor = passing::with_time(*monitor, time);
+    true
+}
 
-    // The end of a stretch of so many records.
-    fn end(self, records: usize) -> Played
-        ensures monitor { result.monitor ≡ so_far self }
-        ensures records { result.records ≡ records }
-    {
-        let monitor = tally::with_active(self.monitor, self.active);
-        Played { monitor, records }
-    }
+// The end of a stretch of so many records.
+fn end(monitor: Monitor, active: Active, records: usize) -> Played
+    ensures monitor { result.monitor ≡ with_active monitor active }
+    ensures records { result.records ≡ records }
+{
+    let monitor = tally::with_active(monitor, active);
+    Played { monitor, records }
 }
 
 // The first record that does more ends the stretch.
@@ -80,15 +72,13 @@ pub(crate) fn stretch(m: Monitor, s: &[u8]) -> Played
     ensures accepted { NoneRefused s.now result.records }
 {
     let places = Places::of(m.settings);
-    let mut parts = Parts {
-        monitor: m,
-        active: tally::active(m),
-    };
+    let mut monitor = m;
+    let mut active = tally::active(m);
     let (records, _) = s.as_chunks::<RECORD>();
     for (i, r) in records.iter().enumerate() {
-        if !parts.record(&places, r) {
-            return parts.end(i);
+        if !record(&mut monitor, &mut active, &places, r) {
+            return end(monitor, active, i);
         }
     }
-    parts.end(records.len())
+    end(monitor, active, records.len())
 }

@@ -50,6 +50,19 @@ fn configured(m: Monitor, fields: [u8; 13]) -> Outcome<Result<RecordAnswer, Refu
     plain(m.configure(&settings_bytes(fields)))
 }
 
+// The same, with a record and an outcome of its own: what goes to a function that is not inlined lies in memory, and no
+// other record's call is to pay for that.
+fn of_settings(m: Monitor, fields: [u8; 13]) -> Outcome<Result<RecordAnswer, Refusal>>
+    ensures next { result.next ≡ after_settings m (settings_with fields) }
+    ensures answer { says_record result.answer ≡ settings_answer (settings_with fields) }
+{
+    let o = configured(m, fields);
+    Outcome {
+        next: o.next,
+        answer: o.answer,
+    }
+}
+
 impl Event {
     // The event's call, brought to a monitor.
     pub fn call(self, m: Monitor) -> Outcome<Result<RecordAnswer, Refusal>>
@@ -57,7 +70,7 @@ impl Event {
         ensures answer { says_record result.answer ≡ answer_of m (call_in self) }
     {
         match self {
-            Event::Settings(fields) => configured(m, fields),
+            Event::Settings(fields) => of_settings(m, fields),
             Event::Completion(c) => {
                 let o = m.completion(c);
                 Outcome {

@@ -59,8 +59,8 @@ fn time(r: &[u8; 16]) -> u32
     endian::load(&r[4..8]) as u32
 }
 
-// What a completion's record brings.
-fn command(r: &[u8; 16]) -> Command
+// What a completion's record brings, of any 16 bytes: that they are one is not asked.
+pub fn command(r: &[u8; 16]) -> Command
     ensures { result ≡ command_of r.now }
 {
     Command {

@@ -7,4 +7,4 @@ mod event;
 
 pub use answers::RecordAnswer;
 pub use calls::apply;
-pub use event::{Event, RECORD, completion};
+pub use event::{Event, RECORD, command, completion};

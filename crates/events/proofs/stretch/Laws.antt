@@ -12,31 +12,30 @@ use Rattle.batch.specs.declared.parts.Active.{Active}
 use Rattle.monitor.specs.Calls.{Call, completion}
 use Rattle.monitor.specs.Calls.{play_from}
 use Rattle.batch.specs.Passing.{time_by, with_time}
-use Rattle.batch.specs.Tally.{count_place, AtMost, completed_by}
+use Rattle.batch.specs.Tally.{count_place, AtMost, completed_by, with_active}
 use Rattle.batch.proofs.Alone.{time-apart}
 use Rattle.batch.proofs.Counts.{completes-apart}
 use Rattle.records.specs.Records.{call_of, record_refusal, after_record}
-use Rattle.events.specs.declared.stretch.Parts.{Parts}
 use Rattle.events.specs.Files.{record_at, whole_records, NoneRefused}
-use Rattle.events.specs.Stretch.{Steady, so_far}
+use Rattle.events.specs.Stretch.{Steady}
 use Rattle.events.proofs.files.Laws.{Replayed, one_more}
 
--- a record that a stretch takes
-pub record Taken (s : Settings) (x next : Parts) (r : List ℕ) : Type 0 where
-  pub steady : Steady s next
+-- a record that a stretch takes: what it leaves of the monitor and of the active window
+pub record Taken (s : Settings) (m : Monitor) (a : Active) (m' : Monitor) (a' : Active) (r : List ℕ) : Type 0 where
+  pub steady : Steady s m' a'
   pub accepted : record_refusal r ≡ None
-  pub same : so_far next ≡ after_record (so_far x) r
+  pub same : with_active m' a' ≡ after_record (with_active m a) r
 
-module _ (s : Settings) (x : Parts) (steady : Steady s x) (r : List ℕ) where
+module _ (s : Settings) (m : Monitor) (a : Active) (steady : Steady s m a) (r : List ℕ) where
   -- a completion, at its place
   pub completed :
       (c : Command) (next : Active) →
       call_of r ≡ Some (completion c) →
-      completed_by x.monitor x.active (count_place s c) c ≡ Some next →
-      Taken s x (record { monitor = x.monitor; active = next }) r
+      completed_by m a (count_place s c) c ≡ Some next →
+      Taken s m a m next r
   unfolding after_record record_refusal play_from
   completed c next call is =
-      let rule = completes-apart x.monitor x.active next c steady.apart (rw steady.in_force at is) in
+      let rule = completes-apart m a next c steady.apart (rw steady.in_force at is) in
       record {
         steady = record { in_force = steady.in_force; apart = rule.1 };
         accepted = rw call;
@@ -45,25 +44,22 @@ module _ (s : Settings) (x : Parts) (steady : Steady s x) (r : List ℕ) where
 
   -- the clock and the timer alone
   pub timed :
-      (c : Call) (t : Time) →
-      call_of r ≡ Some c →
-      time_by x.monitor c ≡ Some t →
-      Taken s x (record { monitor = with_time x.monitor t; active = x.active }) r
+      (c : Call) (t : Time) → call_of r ≡ Some c → time_by m c ≡ Some t → Taken s m a (with_time m t) a r
   unfolding after_record record_refusal play_from
   timed c t call is =
-      let rule = time-apart x.monitor x.active c t steady.apart is in
+      let rule = time-apart m a c t steady.apart is in
       record {
         steady = record { in_force = steady.in_force; apart = rule.1 };
         accepted = rw call rule.0.1;
         same = rw call rule.0.0;
       }
 
--- where a stretch is, before record i: none before it was refused, and the counts have room
-pub record Stretched (m : Monitor) (s : List ℕ) (inside : Settings) (x : Parts) (i : ℕ) : Type 0 where
-  pub steady : Steady inside x
-  pub room : AtMost (4294967295 + i) x.active.counts
+-- where a stretch from m is, before record i: none before it was refused, and the counts have room
+pub record Stretched (m : Monitor) (s : List ℕ) (inside : Settings) (now : Monitor) (a : Active) (i : ℕ) : Type 0 where
+  pub steady : Steady inside now a
+  pub room : AtMost (4294967295 + i) a.counts
   pub accepted : NoneRefused s i
-  pub played : Replayed m s (so_far x) i
+  pub played : Replayed m s (with_active now a) i
 
 -- one record more that nothing turns away
 accepted-more :
@@ -78,16 +74,16 @@ accepted-more s i before here j h = by (eqb j i) refl
         by_cases other = omega arith
 
 pub taken :
-    (m : Monitor) (s : List ℕ) (inside : Settings) (x next : Parts) (i : ℕ) (r : List ℕ) →
-    Stretched m s inside x i →
+    (m : Monitor) (s : List ℕ) (inside : Settings) (now next : Monitor) (a a' : Active) (i : ℕ) (r : List ℕ) →
+    Stretched m s inside now a i →
     r ≡ record_at s i →
     i < whole_records s →
-    Steady inside next →
-    AtMost (4294967295 + i + 1) next.active.counts →
+    Steady inside next a' →
+    AtMost (4294967295 + i + 1) a'.counts →
     record_refusal r ≡ None →
-    so_far next ≡ after_record (so_far x) r →
-    Stretched m s inside next (i + 1)
-taken m s inside x next i r at here more steady room accepted same =
+    with_active next a' ≡ after_record (with_active now a) r →
+    Stretched m s inside next a' (i + 1)
+taken m s inside now next a a' i r at here more steady room accepted same =
     record {
       steady = steady;
       room = λ place. omega (arith, room place);

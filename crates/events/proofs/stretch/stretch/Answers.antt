@@ -12,17 +12,17 @@ loop-i-init c =
       steady =
           record {
             in_force = c.of-places.ensures;
-            apart = c.active.ensures.apart;
+            apart = c.active-active.ensures.apart;
           };
-      room = λ place. omega (arith, c.active.ensures.top place);
+      room = λ place. omega (arith, c.active-active.ensures.top place);
       accepted = λ j h. absurd (omega arith);
-      played = (search rules, c.active.ensures.window);
+      played = (search rules, c.active-active.ensures.window);
     }
 
 pub loop-i-preserved : goal.loop-i-preserved
 loop-i-preserved c =
     let more : c.loop-i.i < whole_records c.args.s.now = omega (arith, c.as_chunks.ensures.front_len) in
-    taken _ _ _ _ _ c.loop-i.i _ c.loop-i.invariant
+    taken _ _ _ _ _ _ _ c.loop-i.i _ c.loop-i.invariant
     (rw c.as_chunks.ensures.front (chunk c.args.s.now c.loop-i.i more))
     more
     (c.if-not-record.ensures.steady refl)

@@ -1,18 +1,18 @@
--- `Parts::record`: a completion, at its place; the clock and the timer.
+-- `record`: a completion, at its place; the clock and the timer.
 use Rattle.std.proofs.Common.{◌≡◌, ◌+◌, Bool, true, false, true≢false, sym, refl, arith}
 use Rattle.std.specs.Prelude.{Some}
 use Rattle.records.proofs.Laws.{completion-call}
 use Rattle.batch.specs.Tally.{AtMost, count_place, completed_by}
 use Rattle.batch.proofs.Counts.{room-for-more}
 use Rattle.events.proofs.stretch.Laws.{Taken, completed, timed}
-use Rattle.events.proofs.stretch.Parts.record.Goals.{After-completion-in-Some}
-use Rattle.events.proofs.stretch.Parts.record.Goals as goal
+use Rattle.events.proofs.stretch.record.Goals.{After-completion-in-Some}
+use Rattle.events.proofs.stretch.record.Goals as goal
 
 -- what a completion leaves of the active window, where it is taken
 left :
     (c : goal.After-completion-in-Some) →
     c.completion-in-Some.result ≡ true →
-    completed_by c.args.self.now.monitor c.args.self.now.active (count_place c.args.places.now.settings c.in-Some.c)
+    completed_by c.args.monitor.now c.args.active.now (count_place c.args.places.now.settings c.in-Some.c)
     c.in-Some.c ≡
     Some c.completion-in-Some.new.self
 left c h = rw (← c.place.ensures.place) (sym (rw h at c.completion-in-Some.ensures.next))
@@ -20,11 +20,10 @@ left c h = rw (← c.place.ensures.place) (sym (rw h at c.completion-in-Some.ens
 took :
     (c : goal.After-completion-in-Some) →
     c.completion-in-Some.result ≡ true →
-    Taken c.args.places.now.settings c.args.self.now
-    (record { monitor = c.args.self.now.monitor; active = c.completion-in-Some.new.self })
+    Taken c.args.places.now.settings c.args.monitor.now c.args.active.now c.args.monitor.now c.completion-in-Some.new.self
     c.args.r.now
 took c h =
-    completed _ _ c.requires.steady _ c.in-Some.c _
+    completed _ _ _ c.requires.steady _ c.in-Some.c _
     (completion-call c.args.r.now c.in-Some.c (sym c.in-Some.ensures))
     (left c h)
 
@@ -50,12 +49,12 @@ returns-in-Some-clause-room c top few = by c.completion-in-Some.result refl
 pub returns : goal.returns
 returns c =
     let x =
-    timed _ _ c.requires.steady _ _ c.in-Some-timed.time (sym c.in-Ok.ensures.event) (sym c.in-Some-timed.ensures)
+    timed _ _ _ c.requires.steady _ _ c.in-Some-timed.time (sym c.in-Ok.ensures.event) (sym c.in-Some-timed.ensures)
     in
     record {
       kept = λ e. absurd (true≢false e);
-      steady = λ _. rw c.with_time-self.ensures x.steady;
+      steady = λ _. rw c.with_time.ensures x.steady;
       room = λ top few place. omega (arith, few place);
       accepted = λ _. x.accepted;
-      next = λ _. rw c.with_time-self.ensures x.same;
+      next = λ _. rw c.with_time.ensures x.same;
     }
